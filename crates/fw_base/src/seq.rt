@@ -1,0 +1,76 @@
+//! A list that contracts see as the list of its items.
+ghost use Rattle.std.specs.Prelude.{◌≡◌, [], ◌∷◌, ◌++◌, length, IfOk, OnOk, OnErr};
+
+use super::{Memory, TryCopy};
+use std::alloc::Global;
+use std::marker::Model;
+
+/// A vector. Contracts see the list of its items, so that two sequences with the same items are equal.
+#[derive(Debug, Drop)]
+pub struct Seq<T> {
+    items: Vec<T>,
+}
+
+impl<T> Model for Seq<T> {
+    ghost use Rattle.std.specs.Prelude.{List};
+    ghost use Rattle.std.specs.Coded.{coded_list};
+
+    ghost Value = { List T };
+
+    ghost coded = { coded_list T.code };
+
+    ghost view = { λ seq. seq.items.items };
+}
+
+impl<T> Seq<T> {
+    /// The empty list, which takes no memory. The list keeps the allocator for later pushes.
+    pub fn new(alloc: Global) -> Seq<T>
+        ensures { result ≡ [] }
+    {
+        Seq {
+            items: Vec::new(alloc),
+        }
+    }
+
+    /// The items of a vector, which takes no memory.
+    pub fn from_vec(items: Vec<T>) -> Seq<T>
+        ensures { result ≡ items.items }
+    {
+        Seq { items }
+    }
+
+    pub fn as_slice(&self) -> &[T]
+        ensures { result.now ≡ self.now }
+    {
+        self.items.as_slice()
+    }
+
+    /// The items as a vector, which takes no memory.
+    pub fn into_vec(self) -> Vec<T>
+        ensures { result.items ≡ self }
+    {
+        let Seq { items } = self;
+        items
+    }
+}
+
+impl<T: Drop> Seq<T> {
+    /// Appends an item. For want of memory the list is as before.
+    pub fn push(&mut self, item: T) -> Result<(), Memory>
+        ensures ok { OnOk result (self.new ≡ self.old ++ item ∷ []) }
+        ensures err { OnErr result (self.new ≡ self.old) }
+    {
+        self.items.push(item)?;
+        Ok(())
+    }
+}
+
+impl<T: TryCopy + Drop> TryCopy for Seq<T> {
+    fn copy(&self, alloc: Global) -> Result<Seq<T>, Memory> {
+        let mut copied = Seq::new(alloc);
+        for item in self.as_slice() {
+            copied.push(item.copy(alloc)?)?;
+        }
+        Ok(copied)
+    }
+}
