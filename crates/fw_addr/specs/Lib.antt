@@ -1,0 +1,3 @@
+pub mod Interfaces
+pub mod Nets
+pub mod Ports
