@@ -1,0 +1,5 @@
+pub mod Calls
+pub mod Outcomes
+pub mod Quoted
+pub mod Steps
+pub mod Words
