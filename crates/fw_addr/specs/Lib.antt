@@ -1,3 +1,5 @@
+pub mod Addresses
 pub mod Interfaces
 pub mod Nets
 pub mod Ports
+pub mod Protocols

@@ -1,4 +1,10 @@
 //! IP addresses.
+ghost use Rattle.std.specs.Prelude.{◌≡◌};
+ghost use Rattle.std.specs.Option.{ok_or};
+ghost use Rattle.fw_addr.specs.Addresses.{address};
+
+use super::AddrError;
+use super::ipv4::read_ipv4;
 use fw_base::{Memory, TryCopy};
 use std::alloc::Global;
 
@@ -12,5 +18,15 @@ pub enum Addr {
 impl TryCopy for Addr {
     fn copy(&self, _alloc: Global) -> Result<Addr, Memory> {
         Ok(*self)
+    }
+}
+
+/// Reads an address: four decimal numbers joined by dots.
+pub fn read_addr(text: &str) -> Result<Addr, AddrError>
+    ensures { result ≡ ok_or (address text.now) AddrError.InvalidAddr }
+{
+    match read_ipv4(text.as_bytes()) {
+        Some(number) => Ok(Addr::V4(number)),
+        None => Err(AddrError::InvalidAddr),
     }
 }

@@ -1,5 +1,5 @@
 //! Decimal numbers without a sign and without a leading zero.
-ghost use Rattle.std.specs.Prelude.{◌≡◌, ℕ, ◌<◌, ◌^◌, List, [], ◌∷◌, Some, decimal};
+ghost use Rattle.std.specs.Prelude.{◌≡◌, ℕ, ◌<◌, ◌≤◌, ◌^◌, List, [], ◌∷◌, Some, IfSome, decimal};
 ghost use Rattle.fw_text.specs.Number.{number, number_to, digits_to};
 
 /// The number that a text spells in decimal, where it is at most `most`.
@@ -7,7 +7,8 @@ ghost use Rattle.fw_text.specs.Number.{number, number_to, digits_to};
 /// There is none for the empty text, a text with another byte than a digit (a sign too), a text of two or
 /// more digits that begins with `0`, and a number above `most`.
 pub fn read_number(text: &[u8], most: u64) -> Option<u64>
-    ensures { result ≡ number_to most text.now }
+    ensures value { result ≡ number_to most text.now }
+    ensures bound { IfSome result (λ n. n ≤ most) }
 {
     match text {
         [] | [b'0', _, ..] => None,
@@ -17,7 +18,8 @@ pub fn read_number(text: &[u8], most: u64) -> Option<u64>
 
 /// The number that digits spell, where it is at most `most`; leading zeros are taken.
 fn read_digits(text: &[u8], most: u64) -> Option<u64>
-    ensures { result ≡ digits_to most 0 text.now }
+    ensures value { result ≡ digits_to most 0 text.now }
+    ensures bound { IfSome result (λ n. n ≤ most) }
 {
     let mut before = 0;
     for byte in text {

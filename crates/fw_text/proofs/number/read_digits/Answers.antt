@@ -4,8 +4,8 @@ use Rattle.fw_text.specs.Number.{digits_to}
 use Rattle.fw_text.proofs.NumberLemmas.{digits_to_more, digits_to_stops}
 use Rattle.fw_text.proofs.number.read_digits.Goals as goal
 
-pub returns-in-None : goal.returns-in-None
-returns-in-None c =
+pub returns-in-None-clause-value : goal.returns-in-None-clause-value
+returns-in-None-clause-value c =
     let byte = get_or c.args.text.now c.loop-byte.byte-index 0 in
     let rest = drop (c.loop-byte.byte-index + 1) c.args.text.now in
     let stops = digits_to_stops c.args.most c.loop-byte.before byte rest (sym c.read_digit.ensures ∙ c.in-None.is) in
