@@ -35,7 +35,7 @@ impl<'a> Words<'a> {
     }
 
     /// Takes the next word, whatever it is.
-    fn next(&mut self) -> Option<&'a [u8]>
+    pub fn next(&mut self) -> Option<&'a [u8]>
         ensures { MatchOption result ((self.old ≡ []) × (self.new ≡ [])) (λ word. self.old ≡ word.now ∷ self.new) }
     {
         let front = cut(b' ', self.rest?);
@@ -105,7 +105,7 @@ fn bare_text(word: &[u8]) -> Option<&str>
 }
 
 /// Bytes as text, where they are UTF-8.
-fn text_of(bytes: &[u8]) -> Option<&str>
+pub fn text_of(bytes: &[u8]) -> Option<&str>
     ensures { option_copied result ≡ (if is_utf8 bytes.now then Some bytes.now else None) }
 {
     match std::str::from_utf8(bytes) {
