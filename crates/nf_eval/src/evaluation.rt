@@ -1,5 +1,5 @@
 //! The way of a packet through the rules of a ruleset.
-ghost use Rattle.std.specs.Prelude.{◌≡◌, ◌+◌, [], IfOk, OnOk, OnErr};
+ghost use Rattle.std.specs.Prelude.{◌≡◌, ◌+◌, ◌<◌, [], IfOk, OnOk, OnErr};
 ghost use Rattle.nf_eval.specs.Evaluation.{Ends, Eval, IsOneInputChain, Visits, outcome_of, rules_looked_at, rules_met};
 
 use crate::decision::rule_decision;
@@ -8,7 +8,8 @@ use fw_model::{Origin, Outcome, Packet, Verdict};
 use fw_steps::Steps;
 use nf_rules::{Chain, Rule, Ruleset};
 use std::alloc::Global;
-use std::sync::ledger::Ledger;
+use std::marker::Brand;
+use std::sync::ledger::{Blank, Ledger};
 
 /// What the ruleset makes of the packet. Each rule that is looked at is a step.
 ///
@@ -30,6 +31,32 @@ pub fn eval<L: Ledger>(
     let chain = &rules.chains.as_slice()[0];
     let verdict = chain_verdict(rules_met(&packet.origin, chain), packet, steps);
     Ok(Outcome::plain(alloc, verdict))
+}
+
+/// What the ruleset makes of the packet, as `eval` says, for a caller that counts no steps.
+///
+/// Refuses for want of memory alone.
+pub fn eval_uncounted(alloc: Global, rules: &Ruleset, packet: &Packet) -> Result<Outcome, Memory>
+    requires { IsOneInputChain rules.now }
+    ensures { IfOk result (λ outcome. Eval rules.now packet.now outcome) }
+{
+    eval_from::<Brand>(alloc, rules, packet, Blank::new(1))
+}
+
+fn eval_from<L: Ledger>(
+    alloc: Global,
+    rules: &Ruleset,
+    packet: &Packet,
+    blank: Blank,
+) -> Result<Outcome, Memory>
+    requires chain { IsOneInputChain rules.now }
+    requires name { blank.name ≡ L.name }
+    requires parts { blank.parts ≡ L.parts }
+    requires some { 0 < blank.parts }
+    ensures { IfOk result (λ outcome. Eval rules.now packet.now outcome) }
+{
+    let mut steps = Steps::<L>::of(blank);
+    eval(alloc, rules, packet, &mut steps)
 }
 
 fn rules_met<'a>(origin: &Origin, chain: &'a Chain) -> &'a [Rule]

@@ -6,5 +6,5 @@ mod evaluation;
 mod laws;
 mod test;
 
-pub use evaluation::eval;
+pub use evaluation::{eval, eval_uncounted};
 pub use laws::{an_outcome_is_the_only_one, the_first_decides};
