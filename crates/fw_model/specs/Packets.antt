@@ -7,4 +7,4 @@ use Rattle.fw_model.specs.declared.packet.Origin.TheVariants.{Host, Link}
 -- It came by an interface of this name.
 abbrev pub came_by : List ℕ → Origin → Bool
 came_by name Host = false
-came_by name (Link link) = bytes_eq name link
+came_by name (Link link) = bytes_eq link name
