@@ -6,8 +6,8 @@ use Rattle.fw_addr.specs.Ports.{Range, port_range}
 use Rattle.fw_addr.specs.Protocols.{port_proto, proto_number}
 use Rattle.fw_addr.specs.declared.proto.PortProto.{PortProto}
 use Rattle.fw_model.specs.declared.port.Port.{Port}
-use Rattle.fw_script.specs.declared.machine.Refusal.{Refusal}
-use Rattle.fw_script.specs.declared.machine.Refusal.TheVariants.{InvalidPort, InvalidProtocol, AlreadyEnabled}
+use Rattle.fw_script.specs.declared.add_port.Refusal.{Refusal}
+use Rattle.fw_script.specs.declared.add_port.Refusal.TheVariants.{InvalidPort, InvalidProtocol, AlreadyEnabled}
 
 -- whether two entries are one: the same range of the same protocol
 abbrev pub same_port : Port → Port → Bool

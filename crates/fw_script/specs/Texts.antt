@@ -5,8 +5,8 @@ use Rattle.fw_addr.specs.Ports.{ports_text}
 use Rattle.fw_addr.specs.Protocols.{port_proto_text}
 use Rattle.fw_line.specs.Quoted.{quoted}
 use Rattle.fw_model.specs.declared.port.Port.{Port}
-use Rattle.fw_script.specs.declared.machine.Refusal.{Refusal}
-use Rattle.fw_script.specs.declared.machine.Refusal.TheVariants.{InvalidPort, InvalidProtocol, AlreadyEnabled}
+use Rattle.fw_script.specs.declared.add_port.Refusal.{Refusal}
+use Rattle.fw_script.specs.declared.add_port.Refusal.TheVariants.{InvalidPort, InvalidProtocol, AlreadyEnabled}
 
 -- the canonical text of a port, as `80/tcp`
 abbrev pub port_text : Port → List ℕ

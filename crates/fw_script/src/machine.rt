@@ -1,41 +1,100 @@
-//! The settings machine: what a call to add a port answers.
-ghost use Rattle.std.specs.Prelude.{◌≡◌};
-ghost use Rattle.fw_script.specs.Machine.{lists, port_to_add, same_port};
+//! The open ports, and the rules that are compiled for them when they are asked for.
+ghost use Rattle.std.specs.Prelude.{◌≡◌, [], ◌∷◌, ◌++◌, IfOk, OnOk, OnErr};
+ghost use Rattle.fw_first.specs.Outcomes.{IsFirstPacket, first_outcome};
+ghost use Rattle.fw_script.specs.State.{IsInstalled};
 
-use fw_addr::{read_port_proto, read_ports};
-use fw_model::Port;
+use fw_base::{Memory, Seq};
+use fw_first::compile_first;
+use fw_model::{Outcome, Packet, Port};
+use nf_eval::{an_outcome_is_the_only_one, eval_uncounted};
+use nf_rules::Ruleset;
+use std::alloc::Global;
+use std::marker::Model;
 
-/// Why a call to add a port is refused.
-#[derive(Clone, Copy, Debug, PartialEq, Eq)]
-pub enum Refusal {
-    /// Its first argument spells no range of ports.
-    InvalidPort,
-    /// Its second argument spells no protocol that has ports.
-    InvalidProtocol,
-    /// The zone lists this port already.
-    AlreadyEnabled(Port),
+/// The ports that are open and the ruleset that lets them in.
+#[derive(Drop)]
+pub struct FirstState {
+    pub ports: Seq<Port>,
+    pub rules: Ruleset,
 }
 
-/// The port that a call adds to those that are listed, or the first refusal.
-pub fn port_to_add(ports: &[Port], port: &str, protocol: &str) -> Result<Port, Refusal>
-    ensures { result ≡ port_to_add ports.now port.now protocol.now }
-{
-    let Ok(range) = read_ports(port) else {
-        return Err(Refusal::InvalidPort);
-    };
-    let Ok(proto) = read_port_proto(protocol) else {
-        return Err(Refusal::InvalidProtocol);
-    };
-    let port = Port { range, proto };
-    if lists(ports, &port) {
-        return Err(Refusal::AlreadyEnabled(port));
+/// The settings machine. Contracts see the list of open ports.
+#[derive(Drop)]
+pub struct Machine {
+    ports: Seq<Port>,
+    rules: Option<Ruleset>,
+}
+
+impl Model for Machine {
+    ghost use Rattle.std.specs.Prelude.{List};
+    ghost use Rattle.std.specs.Option.{ForSome};
+    ghost use Rattle.fw_model.specs.declared.port.Port.{Port};
+    ghost use Rattle.fw_script.specs.State.{IsInstalled};
+
+    ghost Value = { List Port };
+
+    ghost view = { λ machine. machine.ports };
+
+    ghost invariant = { λ machine. ForSome machine.rules (IsInstalled machine.ports) };
+}
+
+impl Machine {
+    /// A machine without open ports.
+    pub fn new(alloc: Global) -> Machine
+        ensures { result ≡ [] }
+    {
+        Machine {
+            ports: Seq::new(alloc),
+            rules: None,
+        }
     }
-    Ok(port)
-}
 
-/// Whether a port is among those that are listed.
-fn lists(ports: &[Port], port: &Port) -> bool
-    ensures { result ≡ lists ports.now port.now }
-{
-    ports.contains(port)
+    pub fn ports(&self) -> &[Port]
+        ensures { result.now ≡ self.now }
+    {
+        self.ports.as_slice()
+    }
+
+    /// Opens a port. For want of memory the ports are as before.
+    pub fn add(&mut self, port: Port) -> Result<(), Memory>
+        ensures ok { OnOk result (self.new ≡ self.old ++ port ∷ []) }
+        ensures err { OnErr result (self.new ≡ self.old) }
+    {
+        self.rules = None;
+        self.ports.push(port)
+    }
+
+    /// What becomes of a packet, by evaluation of the ruleset.
+    pub fn outcome(&mut self, alloc: Global, packet: &Packet) -> Result<Outcome, Memory>
+        requires { IsFirstPacket packet.now }
+        ensures outcome { IfOk result (λ outcome. outcome ≡ first_outcome self.old packet.now) }
+        ensures same { self.new ≡ self.old }
+    {
+        an_outcome_is_the_only_one();
+        let rules = self.take_rules(alloc)?;
+        let outcome = eval_uncounted(alloc, &rules, packet);
+        self.rules = Some(rules);
+        outcome
+    }
+
+    /// The compiled rules, which the machine then no longer keeps.
+    fn take_rules(&mut self, alloc: Global) -> Result<Ruleset, Memory>
+        ensures installed { IfOk result (IsInstalled self.old) }
+        ensures same { self.new ≡ self.old }
+    {
+        match self.rules.take() {
+            Some(rules) => Ok(rules),
+            None => compile_first(alloc, self.ports.as_slice()),
+        }
+    }
+
+    /// The open ports with their rules.
+    pub fn into_state(mut self, alloc: Global) -> Result<FirstState, Memory>
+        ensures ports { IfOk result (λ state. state.ports ≡ self) }
+        ensures installed { IfOk result (λ state. IsInstalled state.ports state.rules) }
+    {
+        let rules = self.take_rules(alloc)?;
+        let Machine { ports, rules: _ } = self;
+        Ok(FirstState { ports, rules })
+    }
 }

@@ -2,7 +2,7 @@
 ghost use Rattle.std.specs.Prelude.{◌≡◌, ◌++◌, IfOk, OnOk};
 ghost use Rattle.fw_script.specs.Texts.{add_port_text, port_added, port_text, refusal_text, refused, replied};
 
-use super::machine::Refusal;
+use super::add_port::Refusal;
 use fw_addr::print_ports;
 use fw_base::Memory;
 use fw_line::push_quoted;
