@@ -1,12 +1,12 @@
 -- The rules that open a list of ports give the outcome that the manual says.
-use Rattle.std.proofs.Common.{◌≡◌, List, [], ◌∷◌, ◌++◌, map, Bool, true, false, ◌||◌, if◌then◌else◌, codes, Some, None, unwrap_or, ◌&&◌, refl, ap, subst, ◌∙◌}
+use Rattle.std.proofs.Common.{◌≡◌, List, [], ◌∷◌, ◌++◌, map, Bool, true, false, IsTrue, ◌||◌, if◌then◌else◌, codes, Some, None, unwrap_or, ◌&&◌, refl, ap, subst, ◌∙◌}
 use Rattle.std.specs.List.{list_any}
 use Rattle.std.specs.Option.{option_or}
 use Rattle.fw_addr.specs.declared.reject.RejectType.TheVariants.{IcmpxAdminProhibited}
 use Rattle.fw_first.specs.Outcomes.{IsFirstPacket, first_outcome, is_let_in}
 use Rattle.fw_first.specs.Rules.{accept_where, final_rule, first_chain, first_rules, first_ruleset, port_rule}
 use Rattle.fw_model.specs.Outcomes.{plain_outcome}
-use Rattle.fw_model.specs.Packets.{came_by}
+use Rattle.fw_model.specs.Packets.{came_by, has_plain_link}
 use Rattle.fw_model.specs.Ports.{port_matches}
 use Rattle.fw_model.specs.declared.outcome.Verdict.{Verdict}
 use Rattle.fw_model.specs.declared.outcome.Verdict.TheVariants.{Accept, Reject}
@@ -16,7 +16,8 @@ use Rattle.fw_model.specs.declared.packet.Packet.{Packet}
 use Rattle.fw_model.specs.declared.port.Port.{Port}
 use Rattle.nf_eval.specs.Evaluation.{Eval, rules_met}
 use Rattle.nf_eval.specs.Tests.{came_in_by, test_holds}
-use Rattle.nf_eval.specs.Verdicts.{FirstDecides, chain_verdict}
+use Rattle.nf_eval.specs.Verdicts.{FirstRuleDecides, chain_verdict}
+use Rattle.nf_rules.specs.declared.chain.Chain.{Chain}
 use Rattle.nf_rules.specs.declared.rule.Rule.{Rule}
 use Rattle.nf_rules.specs.declared.rule.Test.{Test}
 use Rattle.nf_rules.specs.declared.rule.Test.TheVariants.{In, Dport}
@@ -58,13 +59,17 @@ chain_verdict-first_rules packet ports =
     ∙ either-or (came_by (codes "lo") packet.origin) (list_any (λ port. port_matches port packet) ports) Accept (Reject IcmpxAdminProhibited)
 
 -- a packet that came by an interface meets all rules of the chain
-pub first_verdict : (packet : Packet) (ports : List Port) → IsFirstPacket packet → chain_verdict packet (rules_met packet.origin (first_chain ports)) ≡ either (is_let_in ports packet) Accept (Reject IcmpxAdminProhibited)
+rules_met-by_link : (origin : Origin) (chain : Chain) → IsTrue (has_plain_link origin) → rules_met origin chain ≡ chain.rules
+rules_met-by_link Host chain absent = cc
+rules_met-by_link (Link name) chain here = refl
+
+first_verdict : (packet : Packet) (ports : List Port) → IsFirstPacket packet → chain_verdict packet (rules_met packet.origin (first_chain ports)) ≡ either (is_let_in ports packet) Accept (Reject IcmpxAdminProhibited)
 first_verdict packet ports is =
-    ap (λ (origin : Origin). chain_verdict packet (rules_met origin (first_chain ports))) is.by_link
+    ap (chain_verdict packet) (rules_met-by_link packet.origin (first_chain ports) is.by_link)
     ∙ chain_verdict-first_rules packet ports
 
 -- evaluation of the ruleset gives the outcome
-pub first_eval : FirstDecides → (ports : List Port) (packet : Packet) → IsFirstPacket packet → Eval (first_ruleset ports) packet (first_outcome ports packet)
+pub first_eval : FirstRuleDecides → (ports : List Port) (packet : Packet) → IsFirstPacket packet → Eval (first_ruleset ports) packet (first_outcome ports packet)
 first_eval law ports packet is =
     subst (λ (verdict : Verdict). Eval (first_ruleset ports) packet (plain_outcome verdict)) (first_verdict packet ports is)
     (law (first_ruleset ports) (first_chain ports) packet refl)

@@ -9,7 +9,7 @@ use crate::chain::first_chain;
 use crate::rules::list_of;
 use fw_base::Memory;
 use fw_model::Port;
-use nf_eval::the_first_decides;
+use nf_eval::first_rule_decides;
 use nf_rules::Ruleset;
 use std::alloc::Global;
 
@@ -24,7 +24,7 @@ pub fn compile_first(alloc: Global, ports: &[Port]) -> Result<Ruleset, Memory>
     ensures form { IfOk result (λ rules. IsOneInputChain rules) }
     ensures outcomes { IfOk result (λ rules. (packet : Packet) → IsFirstPacket packet → Eval rules packet (first_outcome ports.now packet)) }
 {
-    the_first_decides();
+    first_rule_decides();
     first_ruleset(alloc, ports)
 }
 

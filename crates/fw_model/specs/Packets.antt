@@ -1,6 +1,9 @@
--- Where packets come from.
-use Rattle.std.specs.Prelude.{ℕ, Bool, false, List}
+-- Where packets come from, and which they are.
+use Rattle.std.specs.Prelude.{ℕ, ◌==◌, Bool, true, false, ◌||◌, is_none, List}
 use Rattle.std.specs.Str.{bytes_eq}
+use Rattle.fw_addr.specs.Interfaces.{before_plus}
+use Rattle.fw_addr.specs.declared.addr.Addr.{Addr}
+use Rattle.fw_addr.specs.declared.addr.Addr.TheVariants.{V4, V6}
 use Rattle.fw_model.specs.declared.packet.Origin.{Origin}
 use Rattle.fw_model.specs.declared.packet.Origin.TheVariants.{Host, Link}
 
@@ -8,3 +11,16 @@ use Rattle.fw_model.specs.declared.packet.Origin.TheVariants.{Host, Link}
 abbrev pub came_by : List ℕ → Origin → Bool
 came_by name Host = false
 came_by name (Link link) = bytes_eq link name
+
+-- It came by an interface whose name doesn't end in `+`, as an entry for many names does.
+abbrev pub has_plain_link : Origin → Bool
+has_plain_link Host = false
+has_plain_link (Link link) = is_none (before_plus link)
+
+abbrev pub is_v4 : Addr → Bool
+is_v4 (V4 number) = true
+is_v4 (V6 number) = false
+
+-- Whether a protocol has ports: TCP, UDP, DCCP and SCTP by their numbers in IANA's registry.
+abbrev pub has_ports : ℕ → Bool
+has_ports protocol = protocol == 6 || protocol == 17 || protocol == 33 || protocol == 132

@@ -7,7 +7,7 @@ mod packet;
 mod port;
 
 pub use fw_addr::{
-    Addr, Dnat, Iface, Level, LogKind, LogLine, PortProto, PortRange, Proto, RejectType,
+    CtState, Dnat, Family, Level, Limit, LogKind, LogLine, PktType, RejectType, Unit,
 };
 pub use outcome::{Outcome, Verdict};
 pub use packet::{Origin, Packet};

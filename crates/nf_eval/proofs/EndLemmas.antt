@@ -7,7 +7,7 @@ use Rattle.fw_model.specs.declared.packet.Packet.{Packet}
 use Rattle.nf_eval.specs.Decisions.{rule_decision}
 use Rattle.nf_eval.specs.Evaluation.{Ends, outcome_of, rules_met}
 use Rattle.nf_eval.specs.Evaluation.Ends.{decides, goes_on, accepts}
-use Rattle.nf_eval.specs.Verdicts.{FirstDecides, HasOneOutcome, chain_verdict}
+use Rattle.nf_eval.specs.Verdicts.{FirstRuleDecides, HasOneOutcome, chain_verdict}
 use Rattle.nf_rules.specs.declared.chain.Chain.{Chain}
 use Rattle.nf_rules.specs.declared.rule.Rule.{Rule}
 
@@ -48,5 +48,5 @@ one_outcome rules packet one other first second =
     let same : second.chain ≡ first.chain = cc in
     same_end first.ends (subst (λ (chain : Chain). Ends (rules_met packet.origin chain) 0 packet [] other) same second.ends)
 
-pub first_decides : FirstDecides
+pub first_decides : FirstRuleDecides
 first_decides rules chain packet alone = record { chain = chain; alone = alone; ends = ends_behind [] (rules_met packet.origin chain) packet [] }

@@ -17,8 +17,8 @@ chain_verdict packet [] = Accept
 chain_verdict packet (rule ∷ rules) = unwrap_or (rule_decision packet rule) (chain_verdict packet rules)
 
 -- A ruleset of one chain gives a packet the verdict of the first of its rules that decides anything.
-abbrev pub FirstDecides : Type 0
-FirstDecides =
+abbrev pub FirstRuleDecides : Type 0
+FirstRuleDecides =
     (rules : Ruleset) (chain : Chain) (packet : Packet)
     → rules.chains ≡ chain ∷ []
     → Eval rules packet (plain_outcome (chain_verdict packet (rules_met packet.origin chain)))

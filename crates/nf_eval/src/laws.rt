@@ -1,12 +1,12 @@
 //! Laws of evaluation.
-ghost use Rattle.nf_eval.specs.Verdicts.{FirstDecides, HasOneOutcome};
+ghost use Rattle.nf_eval.specs.Verdicts.{FirstRuleDecides, HasOneOutcome};
 
 /// The first rule that decides anything gives the verdict, and where none does the packet is accepted.
-pub fn the_first_decides()
-    ensures { FirstDecides }
+pub fn first_rule_decides()
+    ensures { FirstRuleDecides }
 {}
 
 /// A ruleset gives each packet one outcome.
-pub fn an_outcome_is_the_only_one()
+pub fn outcome_is_unique()
     ensures { HasOneOutcome }
 {}

@@ -7,4 +7,4 @@ mod laws;
 mod test;
 
 pub use evaluation::{eval, eval_uncounted};
-pub use laws::{an_outcome_is_the_only_one, the_first_decides};
+pub use laws::{first_rule_decides, outcome_is_unique};

@@ -12,5 +12,5 @@ returns-clause-outcomes c =
     IfOk-weaker c.first_ruleset.result _ _
     (λ made is packet fits.
     subst (λ (rules : Ruleset). Eval rules packet (first_outcome c.args.ports.now packet)) (sym is)
-    (first_eval c.the_first_decides.ensures c.args.ports.now packet fits))
+    (first_eval c.first_rule_decides.ensures c.args.ports.now packet fits))
     c.first_ruleset.ensures
