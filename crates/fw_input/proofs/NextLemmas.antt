@@ -65,3 +65,10 @@ next-line-append limit budget front more lf within short =
     let rest : after_first is_lf (front ++ more) ≡ after_first is_lf front ++ more = rw same (drop-append-le _ front more (omega arith)) in
     let here = next-line limit budget (front ++ more) (rw same (omega (arith, length-append front more))) (rw same within) (rw same short) in
     rw (line, rest) at here
+
+-- a line comes only within the input limit
+pub next-spends : (limit budget : ℕ) (bytes line rest : List ℕ) → next limit budget bytes ≡ Line line rest → 0 < budget
+next-spends limit zero [] line rest is = absurd (cc (next-end limit 0))
+next-spends limit zero (byte ∷ bytes) line rest is =
+    absurd (cc (next-input limit 0 (byte ∷ bytes) (omega arith) (omega arith) (omega arith)))
+next-spends limit (suc budget) bytes line rest is = omega arith

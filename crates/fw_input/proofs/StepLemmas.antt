@@ -103,3 +103,12 @@ judges-from answer.Failed old new None None limit step = refl
 judges-from answer.Memory old new None None limit step = refl
 judges-from a old new (Some left) None limit step = absurd step
 judges-from a old new None (Some after) limit step = absurd step
+
+-- a line takes from the budget
+pub spends : (a : Advance) (old new : Reader) (before after : List ℕ) → Steps a old new before after → a ≡ answer.Line → new.budget < old.budget
+spends answer.Line old new before after step is = omega (arith, step.1, nexts.next-spends _ _ before new.line after step.0)
+spends answer.End old new before after step is = absurd (cc)
+spends answer.LineTooLong old new before after step is = absurd (cc)
+spends answer.InputTooLong old new before after step is = absurd (cc)
+spends answer.Failed old new before after step is = absurd (cc)
+spends answer.Memory old new before after step is = absurd (cc)

@@ -90,6 +90,7 @@ impl LineReader {
         ensures step { Advances result self.old self.new (S.left source.old) (S.left source.new) }
         ensures judged { Judges result self.new.line (outlook self.old (S.left source.old)) (outlook self.new (S.left source.new)) }
         ensures line_limit { self.new.line_limit ≡ self.old.line_limit }
+        ensures spends { result ≡ Advance.Line → self.new.budget < self.old.budget }
         ensures no_line { (result ≡ Advance.Line → ⊥) → self.new.line ≡ [] }
         ensures no_read { IsSome (decision self.old) → (S.left source.new ≡ S.left source.old) × (S.faults source.new ≡ S.faults source.old) }
         ensures undecided { (result ≡ Advance.Failed) ⊎ (result ≡ Advance.Memory) → decision self.new ≡ None }
