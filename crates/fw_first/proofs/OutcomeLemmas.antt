@@ -3,7 +3,8 @@ use Rattle.std.proofs.Common.{◌≡◌, List, [], ◌∷◌, ◌++◌, map, Boo
 use Rattle.std.specs.List.{list_any}
 use Rattle.std.specs.Option.{option_or}
 use Rattle.fw_addr.specs.declared.reject.RejectType.TheVariants.{IcmpxAdminProhibited}
-use Rattle.fw_first.specs.Outcomes.{IsFirstPacket, first_outcome, is_let_in}
+use Rattle.fw_first.specs.Outcomes.{first_outcome, is_let_in}
+use Rattle.fw_model.specs.Packets.{IsFirstPacket}
 use Rattle.fw_first.specs.Rules.{accept_where, final_rule, first_chain, first_rules, first_ruleset, port_rule}
 use Rattle.fw_model.specs.Outcomes.{plain_outcome}
 use Rattle.fw_model.specs.Packets.{came_by, has_plain_link}

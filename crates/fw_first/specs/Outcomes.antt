@@ -1,10 +1,10 @@
 -- What becomes of a packet where a list of ports is open (firewalld.zone(5), `port`): they and the loopback interface let
 -- it in, and all else is rejected (the zone's target `default`).
-use Rattle.std.specs.Prelude.{List, Bool, IsTrue, codes, ◌||◌, if◌then◌else◌}
+use Rattle.std.specs.Prelude.{List, Bool, codes, ◌||◌, if◌then◌else◌}
 use Rattle.std.specs.List.{list_any}
 use Rattle.fw_addr.specs.declared.reject.RejectType.TheVariants.{IcmpxAdminProhibited}
 use Rattle.fw_model.specs.Outcomes.{plain_outcome}
-use Rattle.fw_model.specs.Packets.{came_by, has_plain_link, has_ports, is_v4}
+use Rattle.fw_model.specs.Packets.{came_by}
 use Rattle.fw_model.specs.Ports.{port_matches}
 use Rattle.fw_model.specs.declared.outcome.Outcome.{Outcome}
 use Rattle.fw_model.specs.declared.outcome.Verdict.TheVariants.{Accept, Reject}
@@ -18,11 +18,3 @@ is_let_in ports packet = came_by (codes "lo") packet.origin || list_any (λ port
 -- Accepted or rejected; mark 0, no translation, no masquerade, no log line.
 abbrev pub first_outcome : List Port → Packet → Outcome
 first_outcome ports packet = plain_outcome (if is_let_in ports packet then Accept else Reject IcmpxAdminProhibited)
-
--- The packets that are asked about: they came by an interface, whose name has no `+`, go from one IPv4 address to
--- another, and have ports.
-pub record IsFirstPacket (packet : Packet) : Type 0 where
-  pub by_link : IsTrue (has_plain_link packet.origin)
-  pub from_v4 : IsTrue (is_v4 packet.src)
-  pub to_v4 : IsTrue (is_v4 packet.dst)
-  pub with_ports : IsTrue (has_ports packet.proto)

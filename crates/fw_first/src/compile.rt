@@ -1,6 +1,7 @@
 //! From open ports to a ruleset.
 ghost use Rattle.std.specs.Prelude.{◌≡◌, IfOk};
-ghost use Rattle.fw_first.specs.Outcomes.{IsFirstPacket, first_outcome};
+ghost use Rattle.fw_first.specs.Outcomes.{first_outcome};
+ghost use Rattle.fw_model.specs.Packets.{IsFirstPacket};
 ghost use Rattle.fw_first.specs.Rules.{first_ruleset};
 ghost use Rattle.fw_model.specs.declared.packet.Packet.{Packet};
 ghost use Rattle.nf_eval.specs.Evaluation.{Eval, IsOneInputChain};

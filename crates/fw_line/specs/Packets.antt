@@ -5,7 +5,7 @@ use Rattle.fw_addr.specs.Addresses.{address}
 use Rattle.fw_addr.specs.Interfaces.{before_plus, is_interface}
 use Rattle.fw_addr.specs.Protocols.{proto}
 use Rattle.fw_addr.specs.declared.addr.Addr.{Addr}
-use Rattle.fw_addr.specs.declared.addr.Addr.TheVariants.{V4, V6}
+use Rattle.fw_model.specs.Packets.{has_ports, is_v4}
 use Rattle.fw_model.specs.declared.packet.Origin.TheVariants.{Link}
 use Rattle.fw_model.specs.declared.packet.Packet.{Packet}
 use Rattle.fw_line.specs.Steps.{◌>>=◌, at_end}
@@ -13,12 +13,7 @@ use Rattle.fw_line.specs.Words.{value_of}
 
 -- an address of IPv4
 abbrev pub only_v4 : Addr → Option Addr
-only_v4 (V4 n) = Some (V4 n)
-only_v4 (V6 n) = None
-
--- whether a protocol has ports: tcp 6, udp 17, dccp 33 and sctp 132
-abbrev pub has_ports : ℕ → Bool
-has_ports n = n == 6 || n == 17 || n == 33 || n == 132
+only_v4 addr = if is_v4 addr then Some addr else None
 
 -- the number of a protocol that has ports
 abbrev pub with_ports : ℕ → Option ℕ

@@ -1,11 +1,13 @@
 //! Reading what follows the word `packet`.
-ghost use Rattle.std.specs.Prelude.{◌≡◌, None, Some, MatchResult};
+ghost use Rattle.std.specs.Prelude.{◌≡◌, None, Some, is_none, IsTrue, IfOk, MatchResult};
 ghost use Rattle.std.specs.Option.{option_and_then};
 ghost use Rattle.fw_text.specs.Number.{number_to};
 ghost use Rattle.fw_addr.specs.Addresses.{address};
+ghost use Rattle.fw_addr.specs.Interfaces.{before_plus};
 ghost use Rattle.fw_addr.specs.Protocols.{proto};
+ghost use Rattle.fw_model.specs.Packets.{IsFirstPacket, has_ports, is_v4};
 ghost use Rattle.fw_line.specs.Outcomes.{Says};
-ghost use Rattle.fw_line.specs.Packets.{has_ports, link_name, only_v4, packet_of, with_ports};
+ghost use Rattle.fw_line.specs.Packets.{link_name, only_v4, packet_of, with_ports};
 
 use super::LineError;
 use super::words::Words;
@@ -18,7 +20,8 @@ use std::alloc::Global;
 /// A packet, by the words that are left of its line.
 #[tactic(auto, using(crate::proofs::Ends::not_at_end), unfolding(crate::specs::Packets::packet_of))]
 pub fn read_packet(alloc: Global, words: &mut Words) -> Result<Packet, LineError>
-    ensures { Says result (packet_of words.old) }
+    ensures says { Says result (packet_of words.old) }
+    ensures asked { IfOk result IsFirstPacket }
 {
     let src = read_ipv4(words.value(b"src=")?)?;
     let dst = read_ipv4(words.value(b"dst=")?)?;
@@ -40,7 +43,8 @@ pub fn read_packet(alloc: Global, words: &mut Words) -> Result<Packet, LineError
 
 /// An address of IPv4.
 fn read_ipv4(text: &str) -> Result<Addr, LineError>
-    ensures { Says result (option_and_then only_v4 (address text.now)) }
+    ensures says { Says result (option_and_then only_v4 (address text.now)) }
+    ensures v4 { IfOk result (λ addr. IsTrue (is_v4 addr)) }
 {
     match read_addr(text) {
         Ok(Addr::V4(address)) => Ok(Addr::V4(address)),
@@ -50,7 +54,8 @@ fn read_ipv4(text: &str) -> Result<Addr, LineError>
 
 /// A protocol that has ports, by its name or its number.
 fn read_protocol(text: &str) -> Result<Proto, LineError>
-    ensures { Says result (option_and_then with_ports (proto text.now)) }
+    ensures says { Says result (option_and_then with_ports (proto text.now)) }
+    ensures ports { IfOk result (λ protocol. IsTrue (has_ports protocol)) }
 {
     let Ok(protocol) = read_proto(text) else {
         return Err(LineError::BadLine);
@@ -80,7 +85,8 @@ fn read_port(text: &str) -> Result<u16, LineError>
 
 /// The name of an interface, without a `+`.
 fn read_link(text: &str) -> Result<&str, LineError>
-    ensures { MatchResult result (λ name. link_name text.now ≡ Some name.now) (λ error. (error ≡ LineError.BadLine) × (link_name text.now ≡ None)) }
+    ensures plain { IfOk result (λ name. IsTrue (is_none (before_plus name.now))) }
+    ensures says { MatchResult result (λ name. link_name text.now ≡ Some name.now) (λ error. (error ≡ LineError.BadLine) × (link_name text.now ≡ None)) }
 {
     match read_iface(text) {
         Ok(_) if !text.ends_with('+') => Ok(text),

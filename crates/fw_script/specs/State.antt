@@ -1,6 +1,7 @@
 -- The open ports, and the rules that are installed for them.
 use Rattle.std.specs.Prelude.{◌≡◌, List, Option, IfSome}
-use Rattle.fw_first.specs.Outcomes.{IsFirstPacket, first_outcome}
+use Rattle.fw_first.specs.Outcomes.{first_outcome}
+use Rattle.fw_model.specs.Packets.{IsFirstPacket}
 use Rattle.fw_first.specs.Rules.{first_ruleset}
 use Rattle.fw_model.specs.declared.packet.Packet.{Packet}
 use Rattle.fw_model.specs.declared.port.Port.{Port}

@@ -1,6 +1,7 @@
 //! The open ports, and the rules that are compiled for them when they are asked for.
 ghost use Rattle.std.specs.Prelude.{◌≡◌, [], ◌∷◌, ◌++◌, IfOk, OnOk, OnErr};
-ghost use Rattle.fw_first.specs.Outcomes.{IsFirstPacket, first_outcome};
+ghost use Rattle.fw_first.specs.Outcomes.{first_outcome};
+ghost use Rattle.fw_model.specs.Packets.{IsFirstPacket};
 ghost use Rattle.fw_script.specs.State.{IsInstalled};
 
 use fw_base::{Memory, Seq};
