@@ -3,7 +3,10 @@
 
 mod add_port;
 mod machine;
+mod runner;
+mod status;
 mod texts;
 
 pub use add_port::Refusal;
 pub use machine::FirstState;
+pub use status::Status;
