@@ -4,5 +4,7 @@
 mod chain;
 mod compile;
 mod rules;
+#[cfg(test)]
+mod tests;
 
 pub use compile::compile_first;
