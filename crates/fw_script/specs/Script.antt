@@ -57,15 +57,17 @@ last_status number End = status.Done
 last_status number LineTooLong = status.BadScript number
 last_status number InputTooLong = status.InputTooLong
 
--- Lines of which the first has this number, and how the input ends behind them. The first line outside the grammar
--- ends the script.
-unfoldable pub script_of_lines : List Port → ℕ → List (List ℕ) → Ending → Script
+-- A line of this number: outside the grammar it ends the script, and else what it prints comes before the script of
+-- the lines behind it.
+abbrev pub run_on : List Port → ℕ → Option Line → (List Port → Script) → Script
+run_on ports number None behind = ended ports (status.BadScript number)
+run_on ports number (Some line) behind = printed (step ports line).text (behind (step ports line).ports)
+
+-- Lines of which the first has this number, and how the input ends behind them.
+abbrev pub script_of_lines : List Port → ℕ → List (List ℕ) → Ending → Script
 script_of_lines ports number [] ending = ended ports (last_status number ending)
-script_of_lines ports number (bytes ∷ lines) ending = run (line_of bytes)
-  where
-    run : Option Line → Script
-    run None = ended ports (status.BadScript number)
-    run (Some line) = printed (step ports line).text (script_of_lines (step ports line).ports (number + 1) lines ending)
+script_of_lines ports number (bytes ∷ lines) ending =
+    run_on ports number (line_of bytes) (λ after. script_of_lines after (number + 1) lines ending)
 
 -- a line is at most 1,048,576 bytes long, and an input 67,108,864
 abbrev pub line_limit : ℕ

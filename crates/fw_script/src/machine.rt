@@ -7,7 +7,7 @@ ghost use Rattle.fw_script.specs.State.{IsInstalled};
 use fw_base::{Memory, Seq};
 use fw_first::compile_first;
 use fw_model::{Outcome, Packet, Port};
-use nf_eval::{an_outcome_is_the_only_one, eval_uncounted};
+use nf_eval::{eval_uncounted, outcome_is_unique};
 use nf_rules::Ruleset;
 use std::alloc::Global;
 use std::marker::Model;
@@ -71,7 +71,7 @@ impl Machine {
         ensures outcome { IfOk result (λ outcome. outcome ≡ first_outcome self.old packet.now) }
         ensures same { self.new ≡ self.old }
     {
-        an_outcome_is_the_only_one();
+        outcome_is_unique();
         let rules = self.take_rules(alloc)?;
         let outcome = eval_uncounted(alloc, &rules, packet);
         self.rules = Some(rules);
