@@ -1,5 +1,5 @@
 //! The reader: one buffer, in which the bytes ahead stand, and the place of the line found last.
-ghost use Rattle.std.specs.Prelude.{◌≡◌, ℕ, ◌+◌, ◌-◌, ◌<◌, ◌≤◌, ◌⊎◌, List, [], ◌++◌, length, None, is_some, IsSome};
+ghost use Rattle.std.specs.Prelude.{◌≡◌, ℕ, ◌+◌, ◌-◌, ◌<◌, ◌≤◌, ◌⊎◌, List, [], ◌++◌, length, None, is_some, IsSome, IfSome};
 ghost use Rattle.std.specs.List.{before_first, after_first, position_or_len};
 ghost use Rattle.fw_base.specs.Causes.{Rose};
 ghost use Rattle.fw_input.specs.Lines.{is_lf};
@@ -90,6 +90,7 @@ impl LineReader {
         ensures step { Advances result self.old self.new (S.left source.old) (S.left source.new) }
         ensures judged { Judges result self.new.line (outlook self.old (S.left source.old)) (outlook self.new (S.left source.new)) }
         ensures line_limit { self.new.line_limit ≡ self.old.line_limit }
+        ensures end { result ≡ Advance.End → (self.new.ahead ≡ []) × IfSome (S.left source.new) (λ left. left ≡ []) }
         ensures spends { result ≡ Advance.Line → self.new.budget < self.old.budget }
         ensures no_line { (result ≡ Advance.Line → ⊥) → self.new.line ≡ [] }
         ensures no_read { IsSome (decision self.old) → (S.left source.new ≡ S.left source.old) × (S.faults source.new ≡ S.faults source.old) }

@@ -2,6 +2,7 @@
 #![tactic(auto)]
 
 mod add_port;
+mod lines;
 mod machine;
 mod runner;
 mod status;
