@@ -1,5 +1,5 @@
 -- A run in the middle of its input: what was printed, and what is still to come.
-use Rattle.std.specs.Prelude.{◌≡◌, ℕ, ◌+◌, List, [], ◌++◌, Option, None, Some, IfSome, Result, Ok, Err}
+use Rattle.std.specs.Prelude.{◌≡◌, ℕ, ◌+◌, List, [], ◌++◌, Option, None, Some, IfSome, OnOk, Result, Ok, Err}
 use Rattle.std.specs.Option.{option_map}
 use Rattle.fw_input.specs.Lines.{Judgement}
 use Rattle.fw_line.specs.Line.{line_of}
@@ -62,3 +62,39 @@ RunsBytes (Err error.Memory) bytes old new = Unit {0}
 abbrev pub TakesLine : Option Status → (old new : Runner) → (before after : Option Judgement) → Type 0
 TakesLine None old new before after = remaining old before ≡ remaining new after
 TakesLine (Some status) old new before after = IfSome (remaining old before) (λ script. Came status script [] new)
+
+-- What writing the printed text did: a front of it was written, and where the write didn't fail, that is taken off.
+pub record Flushed {E : Type 0} (result : Result (Unit {0}) E) (old new : Runner) (before after : Option (List ℕ)) : Type 0 where
+  pub front : List ℕ
+  pub behind : List ℕ
+  pub printed : old.unwritten ≡ front ++ behind
+  pub written : after ≡ option_map (λ held. held ++ front) before
+  pub kept : OnOk result (new ≡ record old { unwritten = behind })
+
+-- A status ends a run of which this script remained, and a front of its text was written.
+abbrev pub RunsTo : Status → Option Script → (before after : Option (List ℕ)) → Runner → Type 0
+RunsTo status script before after runner =
+    (front : List ℕ) × (after ≡ option_map (λ held. held ++ front) before) × IfSome script (λ script. Came status script front runner)
+
+-- What a run comes to: the whole text of its script where the input decided the status, and else a front of it.
+abbrev pub Ends : Status → Script → (front : List ℕ) → Type 0
+Ends status.Done script front = (script.status ≡ status.Done) × (script.text ≡ front)
+Ends (status.BadScript line) script front = (script.status ≡ status.BadScript line) × (script.text ≡ front)
+Ends status.InputTooLong script front = (script.status ≡ status.InputTooLong) × (script.text ≡ front)
+Ends status.ReadFault script front = BeginsWith script.text front
+Ends status.WriteFault script front = BeginsWith script.text front
+Ends status.Memory script front = BeginsWith script.text front
+Ends status.Usage script front = ⊥
+
+-- Where the input decided the status, these ports are open in the end.
+abbrev pub Opens : Status → Script → List Port → Type 0
+Opens status.Done script ports = script.ports ≡ ports
+Opens (status.BadScript line) script ports = script.ports ≡ ports
+Opens status.InputTooLong script ports = script.ports ≡ ports
+Opens other script ports = Unit {0}
+
+-- A whole run over an input and an output, where they tell their bytes.
+abbrev pub Ran : Status → Option Script → (before after : Option (List ℕ)) → List Port → Type 0
+Ran status script before after ports =
+    (front : List ℕ) × (after ≡ option_map (λ held. held ++ front) before)
+    × IfSome script (λ script. Ends status script front × Opens status script ports)

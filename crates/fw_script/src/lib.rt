@@ -7,6 +7,7 @@ mod machine;
 mod runner;
 mod status;
 mod texts;
+mod top;
 
 pub use add_port::Refusal;
 pub use machine::FirstState;

@@ -22,7 +22,7 @@ fn run_bytes(alloc: Global, runner: &mut Runner, bytes: &[u8]) -> Result<(), Lin
 }
 
 /// Takes the next line and runs it. Some status ends the run.
-fn take_line<I: Source>(
+pub fn take_line<I: Source>(
     alloc: Global,
     reader: &mut LineReader,
     runner: &mut Runner,
