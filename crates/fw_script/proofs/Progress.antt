@@ -19,7 +19,7 @@ Progress total before now rest =
 printed-printed : (a b : List ℕ) (s : Script) → printed a (printed b s) ≡ printed (a ++ b) s
 printed-printed a b s = ap (λ (text : List ℕ). record { text = text; ports = s.ports; status = s.status }) (sym (append_assoc a b s.text))
 
-held-more : (a b : List ℕ) (before : Option (List ℕ)) → option_map (λ held. held ++ b) (option_map (λ held. held ++ a) before) ≡ option_map (λ held. held ++ (a ++ b)) before
+pub held-more : (a b : List ℕ) (before : Option (List ℕ)) → option_map (λ held. held ++ b) (option_map (λ held. held ++ a) before) ≡ option_map (λ held. held ++ (a ++ b)) before
 held-more a b None = refl
 held-more a b (Some held) = ap Some (append_assoc held a b)
 

@@ -1,5 +1,7 @@
 pub mod Machine
+pub mod Opened
 pub mod Running
 pub mod Script
 pub mod State
 pub mod Texts
+pub mod Words

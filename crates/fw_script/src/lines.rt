@@ -35,6 +35,7 @@ pub fn take_line<I: Source>(
     ensures counted { I.faults input.old ≤ I.faults input.new }
     ensures read_fault { result ≡ Some Status.ReadFault → Rose (I.faults input.old) (I.faults input.new) }
     ensures write_fault { result ≡ Some Status.WriteFault → ⊥ }
+    ensures usage { result ≡ Some Status.Usage → ⊥ }
     ensures end { result ≡ Some Status.Done → IfSome (I.left input.new) (λ left. left ≡ []) }
 {
     match reader.advance(input) {

@@ -3,7 +3,7 @@ use Rattle.std.proofs.Common.{◌+◌, ◌≤◌, ◌^◌}
 use Rattle.fw_input.specs.Reading.{outlook}
 use Rattle.fw_script.specs.Running.{remaining}
 use Rattle.fw_script.proofs.Progress.{Progress}
-use Rattle.fw_script.proofs.top.run_lines.Given as goal
+use Rattle.fw_script.proofs.run.run_lines.Given as goal
 
 abbrev pub invariant-lines : goal.invariant-lines
 invariant-lines g l =

@@ -1,7 +1,7 @@
 -- A flush and a line keep what was written and what remains together.
 use Rattle.std.proofs.Common.{◌∙◌, sym, arith}
 use Rattle.fw_script.proofs.Progress.{ends-flushed, ends-line, progress-flushed, progress-line, same_number}
-use Rattle.fw_script.proofs.top.run_lines.Goals as goal
+use Rattle.fw_script.proofs.run.run_lines.Goals as goal
 
 pub returns-then-is_err-clause-runs : goal.returns-then-is_err-clause-runs
 returns-then-is_err-clause-runs g c =
