@@ -1,15 +1,14 @@
 //! The reader: one buffer, in which the bytes ahead stand, and the place of the line found last.
-ghost use Rattle.std.specs.Prelude.{◌≡◌, ◌+◌, ◌-◌, ◌<◌, ◌≤◌, ◌⊎◌, [], ◌++◌, false, length, IsTrue, Some, None, is_some, OnOk, OnErr, IfOk};
+ghost use Rattle.std.specs.Prelude.{◌≡◌, ℕ, ◌+◌, ◌-◌, ◌<◌, ◌≤◌, ◌⊎◌, List, [], ◌++◌, length, None, is_some, IsSome};
 ghost use Rattle.std.specs.List.{before_first, after_first, position_or_len};
-ghost use Rattle.std.specs.Option.{option_map};
-ghost use Rattle.fw_base.specs.Causes.{HasCause, Rose};
+ghost use Rattle.fw_base.specs.Causes.{Rose};
 ghost use Rattle.fw_input.specs.Lines.{is_lf};
-ghost use Rattle.fw_input.specs.Refilling.{LastStep, Refills};
-ghost use Rattle.fw_input.specs.Reading.{decision, outlook, Advances, Judges};
+ghost use Rattle.fw_input.specs.Reading.{decision, outlook, Advances, Judges, Steps};
+ghost use Rattle.fw_input.specs.Refilling.{choice, Decides, HasLine, LastStep, ReadsOn, Refills};
 
 use super::Advance;
-use super::buffer::{line_length, make_room, read_behind};
-use fw_base::{Failed, Memory, Source};
+use super::buffer::{Refill, fill, line_length};
+use fw_base::Source;
 use std::alloc::Global;
 use std::marker::Model;
 
@@ -35,16 +34,15 @@ pub struct LineReader {
 }
 
 impl Model for LineReader {
-    ghost use Rattle.std.specs.Prelude.{◌≡◌, ◌-◌, ◌≤◌, slice_range, vec_len};
-    ghost use Rattle.std.specs.List.{position_or_len};
-    ghost use Rattle.fw_input.specs.Lines.{is_lf};
     ghost use Rattle.fw_input.specs.Reading.{Reader};
 
     ghost Value = { Reader };
 
-    ghost view = { λ r. record { ahead = slice_range r.buffer.items r.start r.end; budget = r.budget; line = slice_range r.buffer.items r.found_start r.found_end; line_limit = r.line_limit } };
+    ghost use Rattle.fw_input.specs.Fields.{reader_of, IsPlaced};
 
-    ghost invariant = { λ r. (r.start ≤ r.line_end) × (r.line_end ≤ r.end) × (r.end ≤ vec_len r.buffer) × (position_or_len is_lf (slice_range r.buffer.items r.start r.end) ≡ r.line_end - r.start) × (r.found_start ≤ r.found_end) × (r.found_end ≤ vec_len r.buffer) };
+    ghost view = { reader_of };
+
+    ghost invariant = { IsPlaced };
 }
 
 impl LineReader {
@@ -93,25 +91,55 @@ impl LineReader {
         ensures judged { Judges result self.new.line (outlook self.old (S.left source.old)) (outlook self.new (S.left source.new)) }
         ensures line_limit { self.new.line_limit ≡ self.old.line_limit }
         ensures no_line { (result ≡ Advance.Line → ⊥) → self.new.line ≡ [] }
-        ensures no_read { IsTrue (is_some (decision self.old)) → (S.left source.new ≡ S.left source.old) × (S.faults source.new ≡ S.faults source.old) }
+        ensures no_read { IsSome (decision self.old) → (S.left source.new ≡ S.left source.old) × (S.faults source.new ≡ S.faults source.old) }
         ensures undecided { (result ≡ Advance.Failed) ⊎ (result ≡ Advance.Memory) → decision self.new ≡ None }
         ensures counted { S.faults source.old ≤ S.faults source.new }
         ensures cause { result ≡ Advance.Failed → Rose (S.faults source.old) (S.faults source.new) }
     {
         self.forget_line();
-        loop {
-            if let Some(answer) = self.decided() {
-                if answer == Advance::Line {
-                    self.take_line();
-                }
-                return answer;
-            }
+        match self.read_on(source) {
+            Refill::Bytes => self.take_decided(),
+            Refill::End => self.take_last(),
+            Refill::Failed => Advance::Failed,
+            Refill::Memory => Advance::Memory,
+        }
+    }
+
+    /// Reads until the bytes ahead decide what comes next; `Bytes` says that they do.
+    fn read_on<S: Source>(&mut self, source: &mut S) -> Refill
+        requires { self.old.line ≡ [] }
+        ensures reads { ReadsOn result self.old self.new (S.left source.old) (S.left source.new) }
+        ensures no_read { IsSome (decision self.old) → (self.new ≡ self.old) × (S.left source.new ≡ S.left source.old) × (S.faults source.new ≡ S.faults source.old) }
+        ensures counted { S.faults source.old ≤ S.faults source.new }
+        ensures cause { result ≡ Refill.Failed → Rose (S.faults source.old) (S.faults source.new) }
+    {
+        while self.decided().is_none() {
             match self.refill(source) {
-                Refill::More => {}
-                Refill::End => return self.take_last(),
-                Refill::Failed => return Advance::Failed,
-                Refill::Memory => return Advance::Memory,
+                Refill::Bytes => {}
+                other => return other,
             }
+        }
+        Refill::Bytes
+    }
+
+    /// Takes what the bytes ahead decide.
+    fn take_decided(&mut self) -> Advance
+        requires decided { IsSome (decision self.old) }
+        requires line { self.old.line ≡ [] }
+        ensures step { (more : List ℕ) → Steps result self.old self.new (self.old.ahead ++ more) (self.new.ahead ++ more) }
+        ensures answer { Decides result }
+        ensures no_line { (result ≡ Advance.Line → ⊥) → self.new.line ≡ [] }
+        ensures line_limit { self.new.line_limit ≡ self.old.line_limit }
+    {
+        let Some(answer) = self.decided() else {
+            unreachable!()
+        };
+        match answer {
+            Advance::Line => {
+                self.take_line();
+                Advance::Line
+            }
+            ending => ending,
         }
     }
 
@@ -119,17 +147,9 @@ impl LineReader {
     fn decided(&self) -> Option<Advance>
         ensures { result ≡ decision self.now }
     {
-        let length = self.end - self.start;
-        let line = (self.line_end - self.start).min(self.budget);
-        if line > self.line_limit {
-            Some(Advance::LineTooLong)
-        } else if line < length.min(self.budget) {
-            Some(Advance::Line)
-        } else if self.budget < length {
-            Some(Advance::InputTooLong)
-        } else {
-            None
-        }
+        let first = self.line_end - self.start;
+        let all = self.end - self.start;
+        choose(self.line_limit, self.budget, first, all)
     }
 
     /// Lets the line found last go.
@@ -140,12 +160,12 @@ impl LineReader {
         self.found_end = 0;
     }
 
-    /// Takes the first line ahead, whose LF is there.
+    /// Takes the first line ahead.
     fn take_line(&mut self)
-        requires { decision self.old ≡ Some Advance.Line }
+        requires { HasLine self.old }
         ensures ahead { self.new.ahead ≡ after_first is_lf self.old.ahead }
         ensures line { self.new.line ≡ before_first is_lf self.old.ahead }
-        ensures budget { self.new.budget + (length self.new.line + 1) ≡ self.old.budget }
+        ensures budget { self.new.budget ≡ self.old.budget - (length self.new.line + 1) }
         ensures line_limit { self.new.line_limit ≡ self.old.line_limit }
     {
         self.found_start = self.start;
@@ -181,29 +201,28 @@ impl LineReader {
         ensures cause { result ≡ Refill.Failed → Rose (S.faults source.old) (S.faults source.new) }
     {
         let length = self.end - self.start;
-        let made = make_room(&mut self.buffer, self.start, self.end);
+        let (outcome, count) = fill(source, &mut self.buffer, self.start, self.end);
         self.start = 0;
-        self.line_end = length;
-        self.end = length;
-        if made.is_err() {
-            return Refill::Memory;
-        }
-        match read_behind(source, &mut self.buffer, length) {
-            Ok(0) => Refill::End,
-            Ok(count) => {
-                self.end += count;
-                self.line_end += line_length(&self.buffer[length..self.end]);
-                Refill::More
-            }
-            Err(Failed) => Refill::Failed,
-        }
+        self.end = length + count;
+        self.line_end = length + line_length(&self.buffer[length..self.end]);
+        self.found_start = 0;
+        self.found_end = 0;
+        outcome
     }
 }
 
-/// What one read behind the bytes ahead came to.
-enum Refill {
-    More,
-    End,
-    Failed,
-    Memory,
+/// What the bytes ahead decide, where `first` of all of them stand before their first LF.
+fn choose(line_limit: usize, budget: usize, first: usize, all: usize) -> Option<Advance>
+    ensures { result ≡ choice line_limit budget first all }
+{
+    let line = budget.min(first);
+    if line > line_limit {
+        Some(Advance::LineTooLong)
+    } else if line < budget.min(all) {
+        Some(Advance::Line)
+    } else if all > budget {
+        Some(Advance::InputTooLong)
+    } else {
+        None
+    }
 }
