@@ -1,10 +1,9 @@
 -- Where the bytes ahead stand after a line was taken and after a refill.
-use Rattle.std.proofs.Common.{◌≡◌, ℕ, ◌+◌, ◌-◌, ◌<◌, ◌≤◌, not, List, ◌++◌, length, take, drop, slice_range, None, refl, sym, ◌∙◌, ap, arith}
+use Rattle.std.proofs.Common.{◌≡◌, ℕ, ◌+◌, ◌-◌, ◌<◌, ◌≤◌, not, List, length, take, drop, slice_range, None, refl, ◌∙◌, arith}
 use Rattle.std.specs.List.{position_or_len}
 use Rattle.std.proofs.lemmas.Bool.Decides.{nat_tests}
 use Rattle.std.proofs.lemmas.List.{drop-drop, drop-take}
 use Rattle.std.proofs.lemmas.List.Folds.{prefix_len-append}
-use Rattle.std.proofs.lemmas.List.Sums.{prefix_len-le-length}
 use Rattle.fw_input.specs.declared.line_reader.LineReader.TheInside.{Inside}
 use Rattle.fw_input.specs.Fields.{IsPlaced, reader_of}
 use Rattle.fw_input.specs.Lines.{is_lf}

@@ -14,6 +14,9 @@ use std::marker::Model;
 
 /// Reads the lines of a source. LF (byte 10) ends a line; the last line may lack it.
 ///
+/// It holds the bytes ahead in one buffer, which never has more than one piece (65,536 bytes) above the
+/// limit of a line.
+///
 /// Contracts see the bytes ahead, how many of the bytes from there on are within the input limit, the
 /// line found last, and the limit of a line.
 #[derive(Drop)]
@@ -90,6 +93,7 @@ impl LineReader {
         ensures step { Advances result self.old self.new (S.left source.old) (S.left source.new) }
         ensures judged { Judges result self.new.line (outlook self.old (S.left source.old)) (outlook self.new (S.left source.new)) }
         ensures line_limit { self.new.line_limit ≡ self.old.line_limit }
+        ensures short { result ≡ Advance.Line → length self.new.line ≤ self.new.line_limit }
         ensures no_line { (result ≡ Advance.Line → ⊥) → self.new.line ≡ [] }
         ensures no_read { IsSome (decision self.old) → (S.left source.new ≡ S.left source.old) × (S.faults source.new ≡ S.faults source.old) }
         ensures undecided { (result ≡ Advance.Failed) ⊎ (result ≡ Advance.Memory) → decision self.new ≡ None }
@@ -128,6 +132,7 @@ impl LineReader {
         requires line { self.old.line ≡ [] }
         ensures step { (more : List ℕ) → Steps result self.old self.new (self.old.ahead ++ more) (self.new.ahead ++ more) }
         ensures answer { Decides result }
+        ensures short { result ≡ Advance.Line → length self.new.line ≤ self.new.line_limit }
         ensures no_line { (result ≡ Advance.Line → ⊥) → self.new.line ≡ [] }
         ensures line_limit { self.new.line_limit ≡ self.old.line_limit }
     {

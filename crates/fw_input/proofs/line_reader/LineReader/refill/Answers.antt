@@ -1,7 +1,5 @@
 -- The bytes ahead stand at the front then, and the first LF is sought only in what is new.
-use Rattle.std.proofs.Common.{◌≡◌, ◌+◌, ◌-◌, ◌≤◌, ◌∙◌, ℕ, arith, length, take, sym, ap, slice_range}
-use Rattle.std.specs.List.{position_or_len}
-use Rattle.fw_input.specs.Lines.{is_lf}
+use Rattle.std.proofs.Common.{◌≡◌, ◌+◌, ◌-◌, ◌∙◌, arith, take, sym, ap, slice_range}
 use Rattle.fw_input.proofs.LineLemmas.{length-slice_range, position-slice_range}
 use Rattle.fw_input.proofs.PlaceLemmas.{front-has_none, refilled}
 use Rattle.fw_input.proofs.line_reader.LineReader.refill.Goals as goal
