@@ -1,5 +1,5 @@
 -- The identity that a client gives: its user's number in decimal digits, spelled in hexadecimal
--- (D-Bus Specification, "Authentication Protocol" and "Authentication mechanisms": EXTERNAL).
+-- (D-Bus Specification, "Authentication Protocol", whose example is `31303030` for the user 1000).
 use Rattle.std.specs.Prelude.{ℕ, Bool, true, false, ◌&&◌, ◌==◌, nat_eq, nat_le, List, [], ◌∷◌, length, drop}
 use Rattle.std.specs.Char.{is_ascii_digit}
 use Rattle.std.specs.List.{starts_with}

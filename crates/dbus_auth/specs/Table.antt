@@ -1,6 +1,6 @@
 -- The server's side of the authentication protocol with the one mechanism EXTERNAL, as a table: for each
--- stage and line the answer and what comes after it (D-Bus Specification, "Authentication Protocol",
--- "Authentication state diagrams"). A line is without its CRLF.
+-- stage and line the answer and what comes after it (D-Bus Specification, "Authentication Protocol" and
+-- its "Authentication state diagrams"). A line is without its CRLF, and matches as bytes.
 use Rattle.std.specs.Prelude.{ℕ, ◌+◌, Bool, ◌||◌, nat_eq, nat_lt, if◌then◌else◌, List, codes}
 use Rattle.std.specs.List.{starts_with}
 use Rattle.std.specs.Str.{bytes_eq}

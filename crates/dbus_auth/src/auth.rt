@@ -1,6 +1,6 @@
 //! The authentication of one connection.
 ghost use Rattle.std.specs.Prelude.{◌≡◌, ℕ};
-ghost use Rattle.dbus_auth.specs.Table.{is_data, is_error, rejected, step, step_accepted, step_data, step_start};
+ghost use Rattle.dbus_auth.specs.Table.{ended, is_data, is_error, rejected, step, step_accepted, step_data, step_start};
 
 use super::identity::has_identity;
 use super::{AuthAnswer, AuthEnd, Stage};
@@ -68,10 +68,7 @@ impl Auth {
         } else if line.starts_with(b"AUTH") || is_error_line(line) {
             self.reject()
         } else if line == b"BEGIN".as_slice() {
-            self.enter(
-                Stage::Ended(AuthEnd::EarlyBegin),
-                AuthAnswer::Ended(AuthEnd::EarlyBegin),
-            )
+            self.end(AuthEnd::EarlyBegin)
         } else {
             AuthAnswer::Error
         }
@@ -85,10 +82,7 @@ impl Auth {
         } else if is_data_line(line) || line == b"CANCEL".as_slice() || is_error_line(line) {
             self.reject()
         } else if line == b"BEGIN".as_slice() {
-            self.enter(
-                Stage::Ended(AuthEnd::EarlyBegin),
-                AuthAnswer::Ended(AuthEnd::EarlyBegin),
-            )
+            self.end(AuthEnd::EarlyBegin)
         } else {
             AuthAnswer::Error
         }
@@ -115,17 +109,22 @@ impl Auth {
         answer
     }
 
+    /// Ends the connection.
+    fn end(&mut self, end: AuthEnd) -> AuthAnswer
+        ensures { ended end self.old ≡ (result, self.new) }
+    {
+        self.enter(Stage::Ended(end), AuthAnswer::Ended(end))
+    }
+
     /// Rejects a line, which ends the connection the tenth time.
     fn reject(&mut self) -> AuthAnswer
         ensures { rejected self.old ≡ (result, self.new) }
     {
         if self.rejections + 1 < LAST_REJECTION {
             self.rejections += 1;
-            self.stage = Stage::Start;
-            AuthAnswer::Rejected
+            self.enter(Stage::Start, AuthAnswer::Rejected)
         } else {
-            self.stage = Stage::Ended(AuthEnd::Rejections);
-            AuthAnswer::Ended(AuthEnd::Rejections)
+            self.end(AuthEnd::Rejections)
         }
     }
 }
