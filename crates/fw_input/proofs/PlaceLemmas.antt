@@ -44,3 +44,10 @@ front-has_none r now view placed none =
     let here : decision (reader_of r) ≡ None = rw view none in
     let all : length (slice_range r.buffer.items r.start r.end) ≡ r.end - r.start = length-slice_range _ _ _ (omega (arith, r.buffer.ok.0, placed.ends)) in
     (undecided (reader_of r) here).0 ∙ all
+
+-- and the bytes ahead are no more than a line may have
+pub front-short : (r : Inside) (now : Reader) → reader_of r ≡ now → IsPlaced r → decision now ≡ None → r.end - r.start ≤ r.line_limit
+front-short r now view placed none =
+    let here : decision (reader_of r) ≡ None = rw view none in
+    let all : length (slice_range r.buffer.items r.start r.end) ≡ r.end - r.start = length-slice_range _ _ _ (omega (arith, r.buffer.ok.0, placed.ends)) in
+    omega (arith, all, (undecided (reader_of r) here).1)

@@ -63,7 +63,7 @@ last-step answer.Memory old new none last = absurd last
 pub last-step-over : (a : Advance) (old new : Reader) (left : Option (List ℕ)) → (decision old ≡ None) × IfSome left (λ bytes. bytes ≡ []) → LastStep a old new → (rest : List ℕ) → left ≡ Some rest → Steps a old new (old.ahead ++ rest) (new.ahead ++ rest)
 last-step-over a old new left ends last rest is =
     let none : rest ≡ [] = rw is at ends.1 in
-    rw (none, append-nil, append-nil) (last-step a old new ends.0 last)
+    rw (none, append-nil old.ahead, append-nil new.ahead) (last-step a old new ends.0 last)
 
 pub last-short : (a : Advance) (old new : Reader) → decision old ≡ None → LastStep a old new → a ≡ answer.Line → length new.line ≤ new.line_limit
 last-short answer.Line old new none last line = rw (last.1, last.3) (undecided old none).1

@@ -21,6 +21,7 @@ invariant_of-self c =
       first =
           let found = rw c.deref.ensures.value at c.line_length.ensures in
           sym found ∙ omega arith;
+      bounded = c.self.invariant.bounded;
       found = c.self.invariant.starts;
       found_ends = omega (arith, c.self.invariant.within, c.self.invariant.ends);
     }
