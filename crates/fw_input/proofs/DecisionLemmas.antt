@@ -1,8 +1,9 @@
 -- What each decision of a reader says of the numbers of its bytes.
-use Rattle.std.proofs.Common.{◌≡◌, ℕ, ◌+◌, ◌-◌, ◌<◌, ◌≤◌, Bool, true, false, not, List, [], ◌++◌, length, min, Option, None, Some, refl, sym, ◌∙◌, ap, inl, inr, ◌⊎◌, arith}
+use Rattle.std.proofs.Common.{◌≡◌, ℕ, ◌<◌, ◌≤◌, not, List, ◌++◌, length, min, Option, None, Some, refl, sym, ◌∙◌, ap, inl, inr, ◌⊎◌, arith}
 use Rattle.std.specs.List.{position_or_len, before_first, after_first}
 use Rattle.std.proofs.lemmas.Bool.Decides.{nat_tests}
 use Rattle.std.proofs.lemmas.List.Sums.{prefix_len-le-length}
+use Rattle.std.proofs.lemmas.List.Folds.{length-prefix_len}
 use Rattle.std.proofs.lemmas.List.{length-append}
 use Rattle.fw_input.specs.declared.advance.Advance.{Advance}
 use Rattle.fw_input.specs.declared.advance.Advance.TheVariants.{Line, LineTooLong, InputTooLong}
@@ -42,6 +43,9 @@ line-numbers r line = choice-line _ _ _ _ (first-within r) (chosen r (Some Line)
 
 pub has_line : (r : Reader) → decision r ≡ Some Line → HasLine r
 has_line r line = let numbers = line-numbers r line in record { lf = numbers.0; within = numbers.1 }
+
+pub line-short : (r : Reader) → decision r ≡ Some Line → length (before_first is_lf r.ahead) ≤ r.line_limit
+line-short r line = rw length-prefix_len (line-numbers r line).2
 
 pub decided-line : (r : Reader) (more : List ℕ) → decision r ≡ Some Line → next r.line_limit r.budget (r.ahead ++ more) ≡ lines.Line (before_first is_lf r.ahead) (after_first is_lf r.ahead ++ more)
 decided-line r more line =

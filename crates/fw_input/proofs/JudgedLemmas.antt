@@ -1,6 +1,6 @@
 -- A judgement goes on by what comes next.
-use Rattle.std.proofs.Common.{◌≡◌, ℕ, zero, suc, ◌+◌, ◌-◌, ◌<◌, ◌≤◌, Bool, true, false, not, cond, List, [], ◌∷◌, ◌++◌, length, take, drop, min, nat_lt, nat_le, take_while, take_all, inl, inr, refl, sym, ◌∙◌, ap, arith}
-use Rattle.std.specs.List.{position_or_len, before_first, after_first, slice_split, All}
+use Rattle.std.proofs.Common.{◌≡◌, ℕ, suc, ◌+◌, ◌-◌, ◌<◌, ◌≤◌, Bool, true, false, not, cond, List, [], ◌∷◌, length, take, drop, min, nat_lt, nat_le, take_while, take_all, inl, inr, refl, sym, ◌∙◌, ap, arith}
+use Rattle.std.specs.List.{position_or_len, before_first, after_first, slice_split}
 use Rattle.std.proofs.lemmas.Bool.{lt-ltb, le-ltb, lt-leb, le-leb, ne_eqb, cases_lt}
 use Rattle.std.proofs.lemmas.Bool.Decides.{nat_tests}
 use Rattle.std.proofs.lemmas.List.{length-take, length-drop, drop-take}
@@ -8,7 +8,7 @@ use Rattle.std.proofs.Math.Seq.{take-nil}
 use Rattle.std.proofs.lemmas.List.Folds.{length-prefix_len}
 use Rattle.std.proofs.lemmas.List.Splits.{slice_split_first, slice_split_none, length-slice_split}
 use Rattle.std.proofs.lemmas.List.Sums.{prefix_len-le-length, take_while-cons, fails_before_first}
-use Rattle.fw_input.specs.Lines.{is_lf, next, Next, Line, Ends, Ending, End, LineTooLong, InputTooLong, Judgement, judged, no_line, with_line, whole_lines, all_lines}
+use Rattle.fw_input.specs.Lines.{is_lf, next, Next, Line, Ends, End, LineTooLong, InputTooLong, Judgement, judged, no_line, with_line, whole_lines, all_lines}
 use Rattle.fw_input.proofs.LineLemmas.{prefix_len-take, length-line}
 use Rattle.fw_input.proofs.NextLemmas.{line-within, position-within, next-long, next-line, next-input, next-last, next-end}
 

@@ -1,5 +1,5 @@
 -- The first LF of bytes within a limit, and what the bytes ahead decide, by numbers.
-use Rattle.std.proofs.Common.{◌≡◌, ℕ, zero, suc, ◌+◌, ◌-◌, ◌<◌, ◌≤◌, Bool, true, false, cond, not, List, [], ◌∷◌, ◌++◌, length, take, drop, min, Option, None, Some, nat_lt, slice_range, length-drop, refl, sym, ◌∙◌, ap, arith}
+use Rattle.std.proofs.Common.{◌≡◌, ℕ, zero, suc, ◌-◌, ◌≤◌, Bool, not, List, [], ◌∷◌, length, take, min, Option, None, Some, slice_range, length-drop, refl, sym, ◌∙◌, arith}
 use Rattle.std.specs.List.{prefix_len, position_or_len, before_first}
 use Rattle.std.proofs.lemmas.List.Folds.{length-prefix_len}
 use Rattle.std.proofs.lemmas.List.{length-take}

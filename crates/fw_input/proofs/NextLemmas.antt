@@ -1,5 +1,5 @@
 -- What comes next of some bytes, by where their first LF stands.
-use Rattle.std.proofs.Common.{◌≡◌, ℕ, zero, suc, ◌+◌, ◌<◌, ◌≤◌, not, List, [], ◌∷◌, ◌++◌, length, take, drop, min, refl, sym, ◌∙◌, ap, arith}
+use Rattle.std.proofs.Common.{◌≡◌, ℕ, zero, suc, ◌<◌, ◌≤◌, not, List, [], ◌∷◌, ◌++◌, length, take, min, refl, ◌∙◌, ap, arith}
 use Rattle.std.specs.List.{position_or_len, before_first, after_first}
 use Rattle.std.proofs.lemmas.Bool.{lt-ltb, le-ltb}
 use Rattle.std.proofs.lemmas.Bool.Decides.{nat_tests}
@@ -7,7 +7,7 @@ use Rattle.std.proofs.lemmas.List.{length-take, length-append, take-append-le, d
 use Rattle.std.proofs.lemmas.List.Folds.{length-prefix_len, prefix_len-append}
 use Rattle.std.proofs.lemmas.List.Sums.{prefix_len-le-length}
 use Rattle.std.proofs.Math.Seq.{take-nil}
-use Rattle.fw_input.specs.Lines.{is_lf, next, Next, Line, Ends, Ending, End, LineTooLong, InputTooLong}
+use Rattle.fw_input.specs.Lines.{is_lf, next, Line, Ends, End, LineTooLong, InputTooLong}
 use Rattle.fw_input.proofs.LineLemmas.{prefix_len-take, length-line}
 
 take-take : (n budget : ℕ) (bytes : List ℕ) → n ≤ budget → take n (take budget bytes) ≡ take n bytes

@@ -1,10 +1,9 @@
 -- Where the bytes ahead stand after a line was taken and after a refill.
-use Rattle.std.proofs.Common.{◌≡◌, ℕ, ◌+◌, ◌-◌, ◌<◌, ◌≤◌, not, List, ◌++◌, length, take, drop, slice_range, None, refl, sym, ◌∙◌, ap, arith}
+use Rattle.std.proofs.Common.{◌≡◌, ℕ, ◌+◌, ◌-◌, ◌<◌, ◌≤◌, not, List, length, take, drop, slice_range, None, refl, ◌∙◌, arith}
 use Rattle.std.specs.List.{position_or_len}
 use Rattle.std.proofs.lemmas.Bool.Decides.{nat_tests}
 use Rattle.std.proofs.lemmas.List.{drop-drop, drop-take}
 use Rattle.std.proofs.lemmas.List.Folds.{prefix_len-append}
-use Rattle.std.proofs.lemmas.List.Sums.{prefix_len-le-length}
 use Rattle.fw_input.specs.declared.line_reader.LineReader.TheInside.{Inside}
 use Rattle.fw_input.specs.Fields.{IsPlaced, reader_of}
 use Rattle.fw_input.specs.Lines.{is_lf}
@@ -45,3 +44,10 @@ front-has_none r now view placed none =
     let here : decision (reader_of r) ≡ None = rw view none in
     let all : length (slice_range r.buffer.items r.start r.end) ≡ r.end - r.start = length-slice_range _ _ _ (omega (arith, r.buffer.ok.0, placed.ends)) in
     (undecided (reader_of r) here).0 ∙ all
+
+-- and the bytes ahead are no more than a line may have
+pub front-short : (r : Inside) (now : Reader) → reader_of r ≡ now → IsPlaced r → decision now ≡ None → r.end - r.start ≤ r.line_limit
+front-short r now view placed none =
+    let here : decision (reader_of r) ≡ None = rw view none in
+    let all : length (slice_range r.buffer.items r.start r.end) ≡ r.end - r.start = length-slice_range _ _ _ (omega (arith, r.buffer.ok.0, placed.ends)) in
+    omega (arith, all, (undecided (reader_of r) here).1)

@@ -1,6 +1,5 @@
 -- What an advance does, from what its parts do; and what that says of the judgements.
-use Rattle.std.proofs.Common.{◌≡◌, ℕ, ◌+◌, ◌-◌, ◌<◌, ◌≤◌, List, [], ◌++◌, length, Option, None, Some, IfSome, IsSome, append-nil, refl, sym, ◌∙◌, ap, arith}
-use Rattle.std.specs.Option.{option_map}
+use Rattle.std.proofs.Common.{◌≡◌, ◌<◌, ℕ, ◌+◌, ◌-◌, ◌≤◌, List, [], ◌++◌, length, Option, None, Some, IfSome, IsSome, append-nil, arith, refl, sym, ◌∙◌, ap}
 use Rattle.fw_input.specs.declared.advance.Advance.{Advance}
 use Rattle.fw_input.specs.declared.advance.Advance.TheVariants as answer
 use Rattle.fw_input.specs.Lines.{Ending, Judgement, judged, next, no_line, with_line}
@@ -64,7 +63,15 @@ last-step answer.Memory old new none last = absurd last
 pub last-step-over : (a : Advance) (old new : Reader) (left : Option (List ℕ)) → (decision old ≡ None) × IfSome left (λ bytes. bytes ≡ []) → LastStep a old new → (rest : List ℕ) → left ≡ Some rest → Steps a old new (old.ahead ++ rest) (new.ahead ++ rest)
 last-step-over a old new left ends last rest is =
     let none : rest ≡ [] = rw is at ends.1 in
-    rw (none, append-nil, append-nil) (last-step a old new ends.0 last)
+    rw (none, append-nil old.ahead, append-nil new.ahead) (last-step a old new ends.0 last)
+
+pub last-short : (a : Advance) (old new : Reader) → decision old ≡ None → LastStep a old new → a ≡ answer.Line → length new.line ≤ new.line_limit
+last-short answer.Line old new none last line = rw (last.1, last.3) (undecided old none).1
+last-short answer.End old new none last line = cc
+last-short answer.LineTooLong old new none last line = cc
+last-short answer.InputTooLong old new none last line = cc
+last-short answer.Failed old new none last line = cc
+last-short answer.Memory old new none last line = cc
 
 pub last-limit : (a : Advance) (old new : Reader) → LastStep a old new → new.line_limit ≡ old.line_limit
 last-limit answer.Line old new last = last.3

@@ -1,5 +1,5 @@
 -- What the lines of an input are, within a limit on the length of a line and one on the length of the
--- input. LF (byte 10) ends a line; the last line may lack it (POSIX.1, "Line", less the LF at the end).
+-- input. LF (byte 10) ends a line; the last line may lack it (POSIX.1, "Line" and "Incomplete Line").
 use Rattle.std.specs.Prelude.{ℕ, ◌+◌, Bool, List, [], ◌∷◌, length, take, drop, take_while, ◌==◌, nat_lt, nat_le, if◌then◌else◌}
 use Rattle.std.specs.List.{slice_split, before_first}
 

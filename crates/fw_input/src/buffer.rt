@@ -1,5 +1,5 @@
 //! The buffer of a reader: the first LF of some bytes, room behind them, and a read into that room.
-ghost use Rattle.std.specs.Prelude.{◌≡◌, ◌+◌, ◌-◌, ◌<◌, ◌≤◌, take, drop, slice_range, vec_len, OnOk};
+ghost use Rattle.std.specs.Prelude.{◌≡◌, ◌+◌, ◌-◌, ◌<◌, ◌≤◌, take, drop, slice_range, vec_len, max, OnErr, OnOk};
 ghost use Rattle.std.specs.List.{position_or_len};
 ghost use Rattle.fw_base.specs.Causes.{HasCause, Rose};
 ghost use Rattle.fw_base.specs.Streams.{Reads};
@@ -28,6 +28,7 @@ fn make_room(buffer: &mut Vec<u8>, start: usize, end: usize) -> Result<(), Memor
     ensures moved { take (end - start) buffer.new.items ≡ slice_range buffer.old.items start end }
     ensures holds { end - start ≤ vec_len buffer.new }
     ensures room { OnOk result (end - start < vec_len buffer.new) }
+    ensures bounded { vec_len buffer.new ≤ max (vec_len buffer.old) (end - start + PIECE) }
 {
     if start > 0 {
         buffer.copy_within(start..end, 0);
@@ -41,7 +42,8 @@ fn make_room(buffer: &mut Vec<u8>, start: usize, end: usize) -> Result<(), Memor
 /// Makes the buffer one piece longer. For want of memory it is as before.
 fn grow(buffer: &mut Vec<u8>) -> Result<(), Memory>
     ensures kept { take (vec_len buffer.old) buffer.new.items ≡ buffer.old.items }
-    ensures longer { OnOk result (vec_len buffer.old < vec_len buffer.new) }
+    ensures longer { OnOk result (vec_len buffer.new ≡ vec_len buffer.old + PIECE) }
+    ensures as_before { OnErr result (vec_len buffer.new ≡ vec_len buffer.old) }
 {
     let length = buffer.len();
     let longer = length.checked_add(PIECE).ok_or(Memory)?;
@@ -73,6 +75,7 @@ pub fn fill<S: Source>(
 ) -> (Refill, usize)
     requires order { start ≤ end }
     requires inside { end ≤ vec_len buffer.old }
+    ensures bounded { vec_len buffer.new ≤ max (vec_len buffer.old) (end - start + PIECE) }
     ensures fills { Fills result.0 result.1 (slice_range buffer.old.items start end) buffer.new.items (S.left source.old) (S.left source.new) }
     ensures counted { S.faults source.old ≤ S.faults source.new }
     ensures cause { result.0 ≡ Refill.Failed → Rose (S.faults source.old) (S.faults source.new) }

@@ -14,6 +14,9 @@ use std::marker::Model;
 
 /// Reads the lines of a source. LF (byte 10) ends a line; the last line may lack it.
 ///
+/// It holds the bytes ahead in one buffer, which never has more than one piece (65,536 bytes) above the
+/// limit of a line.
+///
 /// Contracts see the bytes ahead, how many of the bytes from there on are within the input limit, the
 /// line found last, and the limit of a line.
 #[derive(Drop)]
@@ -92,6 +95,7 @@ impl LineReader {
         ensures line_limit { self.new.line_limit ≡ self.old.line_limit }
         ensures end { result ≡ Advance.End → (self.new.ahead ≡ []) × IfSome (S.left source.new) (λ left. left ≡ []) }
         ensures spends { result ≡ Advance.Line → self.new.budget < self.old.budget }
+        ensures short { result ≡ Advance.Line → length self.new.line ≤ self.new.line_limit }
         ensures no_line { (result ≡ Advance.Line → ⊥) → self.new.line ≡ [] }
         ensures no_read { IsSome (decision self.old) → (S.left source.new ≡ S.left source.old) × (S.faults source.new ≡ S.faults source.old) }
         ensures undecided { (result ≡ Advance.Failed) ⊎ (result ≡ Advance.Memory) → decision self.new ≡ None }
@@ -130,6 +134,7 @@ impl LineReader {
         requires line { self.old.line ≡ [] }
         ensures step { (more : List ℕ) → Steps result self.old self.new (self.old.ahead ++ more) (self.new.ahead ++ more) }
         ensures answer { Decides result }
+        ensures short { result ≡ Advance.Line → length self.new.line ≤ self.new.line_limit }
         ensures no_line { (result ≡ Advance.Line → ⊥) → self.new.line ≡ [] }
         ensures line_limit { self.new.line_limit ≡ self.old.line_limit }
     {

@@ -3,5 +3,6 @@ pub mod Opened
 pub mod Running
 pub mod Script
 pub mod State
+pub mod Statuses
 pub mod Texts
 pub mod Words

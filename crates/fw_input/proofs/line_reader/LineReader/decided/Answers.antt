@@ -1,4 +1,4 @@
-use Rattle.std.proofs.Common.{◌≡◌, ◌-◌, ◌∙◌, sym, length, arith}
+use Rattle.std.proofs.Common.{◌∙◌, sym, arith}
 use Rattle.fw_input.proofs.LineLemmas.{decision-choice, length-slice_range}
 use Rattle.fw_input.proofs.line_reader.LineReader.decided.Goals as goal
 

@@ -1,9 +1,7 @@
 -- The bytes ahead stand at the front then, and the first LF is sought only in what is new.
-use Rattle.std.proofs.Common.{◌≡◌, ◌+◌, ◌-◌, ◌≤◌, ◌∙◌, ℕ, arith, length, take, sym, ap, slice_range}
-use Rattle.std.specs.List.{position_or_len}
-use Rattle.fw_input.specs.Lines.{is_lf}
+use Rattle.std.proofs.Common.{◌≡◌, ◌+◌, ◌-◌, ◌∙◌, arith, take, sym, ap, slice_range}
 use Rattle.fw_input.proofs.LineLemmas.{length-slice_range, position-slice_range}
-use Rattle.fw_input.proofs.PlaceLemmas.{front-has_none, refilled}
+use Rattle.fw_input.proofs.PlaceLemmas.{front-has_none, front-short, refilled}
 use Rattle.fw_input.proofs.line_reader.LineReader.refill.Goals as goal
 
 pub overflow_add-self-2 : goal.overflow_add-self-2
@@ -31,6 +29,8 @@ invariant_of-self g c =
       first =
           refilled (slice_range r.buffer.items r.start r.end) _ n c.fill-outcome.result.1 front none kept (omega (arith, front, fills.holds))
           ∙ (ap (λ k. n + k) (sym found) ∙ omega arith);
+      bounded =
+          omega (arith, c.fill-outcome.ensures.bounded, c.self.invariant.bounded, front-short r _ c.self.view_is c.self.invariant c.requires.undecided);
       found = omega arith;
       found_ends = omega arith;
     }

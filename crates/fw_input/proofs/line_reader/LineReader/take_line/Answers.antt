@@ -1,7 +1,5 @@
 -- The next line begins behind the LF, and its own LF is sought there.
-use Rattle.std.proofs.Common.{◌≡◌, ◌+◌, ◌-◌, ◌<◌, ℕ, arith, slice_range, refl, sym, ◌∙◌}
-use Rattle.std.specs.List.{position_or_len}
-use Rattle.fw_input.specs.Lines.{is_lf}
+use Rattle.std.proofs.Common.{◌≡◌, ◌+◌, ◌-◌, arith, refl, sym, ◌∙◌}
 use Rattle.fw_input.proofs.LineLemmas.{position-slice_range}
 use Rattle.fw_input.proofs.PlaceLemmas.{line-fits, drop-slice_range}
 use Rattle.fw_input.proofs.line_reader.LineReader.take_line.Goals as goal
@@ -23,6 +21,7 @@ invariant_of-self c =
       first =
           let found = rw c.deref.ensures.value at c.line_length.ensures in
           sym found ∙ omega arith;
+      bounded = c.self.invariant.bounded;
       found = c.self.invariant.starts;
       found_ends = omega (arith, c.self.invariant.within, c.self.invariant.ends);
     }
