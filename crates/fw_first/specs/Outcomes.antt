@@ -1,5 +1,5 @@
--- What becomes of a packet where a list of ports is open (firewalld.zone(5), `port`): they and the loopback interface let
--- it in, and all else is rejected (the zone's target `default`).
+-- What becomes of a packet where a list of ports is open (firewalld.zone(5), `port`): they and the loopback interface
+-- let it in, and all else is rejected (the zone's target `default`).
 use Rattle.std.specs.Prelude.{List, Bool, codes, ◌||◌, if◌then◌else◌}
 use Rattle.std.specs.List.{list_any}
 use Rattle.fw_addr.specs.declared.reject.RejectType.TheVariants.{IcmpxAdminProhibited}

@@ -27,6 +27,7 @@ port_rule port = accept_where (Dport port.proto port.range)
 abbrev pub final_rule : Rule
 final_rule = record { matches = []; stmts = Reject IcmpxAdminProhibited ∷ [] }
 
+-- What comes by the loopback interface is accepted, then what has an open port; all else is rejected.
 abbrev pub first_rules : List Port → List Rule
 first_rules ports = loopback_rule ∷ map port_rule ports ++ final_rule ∷ []
 
@@ -39,5 +40,6 @@ first_chain ports =
       rules = first_rules ports;
     }
 
+-- The whole ruleset.
 abbrev pub first_ruleset : List Port → Ruleset
 first_ruleset ports = record { chains = first_chain ports ∷ [] }

@@ -23,7 +23,9 @@ use std::alloc::Global;
 pub fn compile_first(alloc: Global, ports: &[Port]) -> Result<Ruleset, Memory>
     ensures ruleset { IfOk result (λ rules. rules ≡ first_ruleset ports.now) }
     ensures form { IfOk result (λ rules. IsOneInputChain rules) }
-    ensures outcomes { IfOk result (λ rules. (packet : Packet) → IsFirstPacket packet → Eval rules packet (first_outcome ports.now packet)) }
+    ensures outcomes { IfOk result
+        (λ rules. (packet : Packet) → IsFirstPacket packet
+        → Eval rules packet (first_outcome ports.now packet)) }
 {
     first_rule_decides();
     first_ruleset(alloc, ports)

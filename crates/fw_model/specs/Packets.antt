@@ -18,6 +18,7 @@ abbrev pub has_plain_link : Origin → Bool
 has_plain_link Host = false
 has_plain_link (Link link) = is_none (before_plus link)
 
+-- An address of IPv4.
 abbrev pub is_v4 : Addr → Bool
 is_v4 (V4 number) = true
 is_v4 (V6 number) = false

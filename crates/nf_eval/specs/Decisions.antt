@@ -29,4 +29,5 @@ first_decision packet (statement ∷ statements) = option_or (decision packet st
 
 -- A rule does its statements where all of its matches hold.
 abbrev pub rule_decision : Packet → Rule → Option Verdict
-rule_decision packet rule = if list_all (match_holds packet) rule.matches then first_decision packet rule.stmts else None
+rule_decision packet rule =
+    if list_all (match_holds packet) rule.matches then first_decision packet rule.stmts else None

@@ -61,7 +61,8 @@ pub record Eval (rules : Ruleset) (packet : Packet) (outcome : Outcome) : Type 0
 -- How many of these rules a packet looks at: those up to the first that decides, with it.
 abbrev pub rules_looked_at : Packet → List Rule → ℕ
 rules_looked_at packet [] = 0
-rules_looked_at packet (rule ∷ rules) = 1 + (if is_some (rule_decision packet rule) then 0 else rules_looked_at packet rules)
+rules_looked_at packet (rule ∷ rules) =
+    1 + (if is_some (rule_decision packet rule) then 0 else rules_looked_at packet rules)
 
 -- How many rules of a ruleset of one base chain a packet looks at.
 abbrev pub Visits : Ruleset → Packet → ℕ

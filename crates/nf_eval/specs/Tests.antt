@@ -16,9 +16,10 @@ abbrev pub came_in_by : List ℕ → Origin → Bool
 came_in_by entry Host = false
 came_in_by entry (Link name) = matches entry name
 
+-- What a test asks of a packet: by which interface it came, or whether it has the protocol and a destination port in
+-- the range (TCP HEADER EXPRESSION and its kin, dport).
 abbrev pub test_holds : Packet → Test → Bool
 test_holds packet (In entry) = came_in_by entry packet.origin
--- the packet has this protocol and a destination port in the range (TCP HEADER EXPRESSION and its kin, dport)
 test_holds packet (Dport proto range) = packet.proto == proto_number proto && in_range range packet.dport
 
 -- `not` turns the whole test round.
