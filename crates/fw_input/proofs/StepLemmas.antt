@@ -1,5 +1,5 @@
 -- What an advance does, from what its parts do; and what that says of the judgements.
-use Rattle.std.proofs.Common.{◌≡◌, ◌<◌, ℕ, ◌+◌, ◌-◌, ◌≤◌, List, [], ◌++◌, length, Option, None, Some, IfSome, IsSome, append-nil, arith, refl, sym, ◌∙◌, ap}
+use Rattle.std.proofs.Common.{◌≡◌, ℕ, ◌+◌, ◌-◌, ◌<◌, ◌≤◌, List, [], ◌++◌, length, Option, None, Some, IfSome, IsSome, append-nil, refl, sym, ◌∙◌, ap, arith}
 use Rattle.fw_input.specs.declared.advance.Advance.{Advance}
 use Rattle.fw_input.specs.declared.advance.Advance.TheVariants as answer
 use Rattle.fw_input.specs.Lines.{Ending, Judgement, judged, next, no_line, with_line}

@@ -1,6 +1,6 @@
 -- What the steps of an advance come to together.
-use Rattle.std.proofs.Common.{◌∙◌, ◌<◌, arith, []}
-use Rattle.fw_input.proofs.StepLemmas.{advances-from, judges-from, last-limit, last-short, last-step, last-step-over, spends, still_decided}
+use Rattle.std.proofs.Common.{◌∙◌, [], arith}
+use Rattle.fw_input.proofs.StepLemmas.{advances-from, judges-from, last-limit, last-short, last-step-over, last-step, spends, still_decided}
 use Rattle.fw_input.proofs.line_reader.LineReader.advance.Goals as goal
 
 pub returns-in-Bytes-clause-step : goal.returns-in-Bytes-clause-step
@@ -51,10 +51,6 @@ returns-in-Memory-clause-no_read g c = λ decided.
     let kept = c.in-Memory.ensures.no_read (still_decided _ _ c.forget_line.ensures decided) in
     (kept.1, kept.2)
 
-pub returns-in-End-clause-short : goal.returns-in-End-clause-short
-returns-in-End-clause-short g c =
-    last-short c.take_last.result _ _ c.in-End.ensures.reads.goes_on.0 c.take_last.ensures
-
 pub returns-in-Bytes-clause-spends : goal.returns-in-Bytes-clause-spends
 returns-in-Bytes-clause-spends g c = λ is.
     let budget = rw c.forget_line.ensures at c.in-Bytes.ensures.reads.budget in
@@ -65,3 +61,7 @@ returns-in-End-clause-spends g c = λ is.
     let reads = c.in-End.ensures.reads in
     let budget = rw c.forget_line.ensures at reads.budget in
     omega (arith, budget, spends c.take_last.result _ _ _ _ (last-step c.take_last.result _ _ reads.goes_on.0 c.take_last.ensures) is)
+
+pub returns-in-End-clause-short : goal.returns-in-End-clause-short
+returns-in-End-clause-short g c =
+    last-short c.take_last.result _ _ c.in-End.ensures.reads.goes_on.0 c.take_last.ensures
