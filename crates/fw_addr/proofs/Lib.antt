@@ -1,6 +1,7 @@
 pub mod GapLemmas
 pub mod GroupLemmas
 pub mod HexLemmas
+pub mod LawLemmas
 pub mod NetLemmas
 pub mod PieceLemmas
 pub mod PowerLemmas

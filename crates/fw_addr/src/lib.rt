@@ -11,6 +11,7 @@ mod iface;
 mod ipv4;
 mod ipv6;
 mod ipv6_text;
+mod laws;
 mod limit;
 mod log;
 mod mac;
@@ -21,11 +22,15 @@ mod ports;
 mod proto;
 mod reject;
 
+#[cfg(test)]
+mod tests;
+
 pub use addr::{Addr, print_addr, read_addr};
 pub use dnat::Dnat;
 pub use error::AddrError;
 pub use icmp::{IcmpNumbers, icmp_numbers};
 pub use iface::{Iface, read_iface};
+pub use laws::printed_ports_are_read;
 pub use limit::{Limit, Unit};
 pub use log::{Level, LogKind, LogLine};
 pub use mac::{Mac, print_mac, read_mac};
