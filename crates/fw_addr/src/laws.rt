@@ -1,5 +1,8 @@
 //! What is printed reads back. Each function here is a law: its clause is all of it.
-ghost use Rattle.std.specs.Prelude.{◌≡◌, ◌<◌, ◌≤◌, ◌^◌, Some};
+ghost use Rattle.std.specs.Prelude.{◌≡◌, ℕ, ◌<◌, ◌≤◌, ◌^◌, Some};
+ghost use Rattle.fw_addr.specs.Hardware.{mac, mac_text};
+ghost use Rattle.fw_addr.specs.Protocols.{port_proto, port_proto_text, proto, proto_text};
+ghost use Rattle.fw_addr.specs.declared.proto.PortProto.{PortProto};
 ghost use Rattle.fw_addr.specs.Ports.{Range, port_range, ports_text};
 
 use fw_text::decimal_is_read;
@@ -10,3 +13,16 @@ pub fn printed_ports_are_read()
 {
     decimal_is_read();
 }
+
+/// The text of a protocol is read as its number.
+pub fn printed_protocols_are_read()
+    ensures all { (n : ℕ) → n < 2 ^ 8 → proto (proto_text n) ≡ Some n }
+    ensures with_ports { (protocol : PortProto) → port_proto (port_proto_text protocol) ≡ Some protocol }
+{
+    decimal_is_read();
+}
+
+/// The text of a hardware address is read as the address.
+pub fn printed_hardware_addresses_are_read()
+    ensures { (n : ℕ) → n < 2 ^ 48 → mac (mac_text n) ≡ Some n }
+{}

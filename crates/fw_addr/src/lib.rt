@@ -21,7 +21,6 @@ mod packet;
 mod ports;
 mod proto;
 mod reject;
-
 #[cfg(test)]
 mod tests;
 
@@ -30,7 +29,9 @@ pub use dnat::Dnat;
 pub use error::AddrError;
 pub use icmp::{IcmpNumbers, icmp_numbers};
 pub use iface::{Iface, read_iface};
-pub use laws::printed_ports_are_read;
+pub use laws::{
+    printed_hardware_addresses_are_read, printed_ports_are_read, printed_protocols_are_read,
+};
 pub use limit::{Limit, Unit};
 pub use log::{Level, LogKind, LogLine};
 pub use mac::{Mac, print_mac, read_mac};

@@ -209,7 +209,10 @@ fn names(rt: HostRuntime) {
         ("router-solicitation", Some(10), Some(133)),
         ("time-exceeded", Some(11), Some(3)),
     ] {
-        assert!(rt; icmp_numbers(name) == Some(IcmpNumbers { v4, v6 }), "{name}");
+        assert!(rt;
+            icmp_numbers(name) == Some(IcmpNumbers { v4, v6 }),
+            "{name}"
+        );
     }
     assert!(rt; icmp_numbers("echo").is_none());
     for (proto, name) in [
