@@ -1,12 +1,12 @@
 -- What was printed is read back: the pieces of printed texts.
-use Rattle.std.proofs.Common.{◌≡◌, ℕ, zero, suc, ◌+◌, ◌-◌, ◌*◌, ◌/◌, ◌%◌, ◌^◌, ◌<◌, ◌≤◌, Bool, true, false, cond, not, ◌&&◌, eqb, ltb, leb, List, [], ◌∷◌, ◌++◌, length, map, Option, Some, None, refl, sym, ap, ◌∙◌, arith, inl, inr, ⊎_elim}
+use Rattle.std.proofs.Common.{◌≡◌, ℕ, ◌+◌, ◌*◌, ◌/◌, ◌%◌, ◌^◌, ◌<◌, ◌≤◌, Bool, true, false, cond, not, ◌&&◌, eqb, List, [], ◌∷◌, ◌++◌, length, Option, Some, None, refl, sym, ap, ◌∙◌, arith}
 use Rattle.std.specs.Char.{digit_value, is_ascii_digit}
-use Rattle.std.specs.Fmt.{decimal, digits, digit_glyph}
+use Rattle.std.specs.Fmt.{decimal, digit_glyph}
 use Rattle.std.specs.List.{join_with_byte, list_all}
 use Rattle.std.specs.Str.{all_ascii_digits}
-use Rattle.std.specs.Str.Parse.{AllDigits, digits_value}
-use Rattle.std.proofs.lemmas.Bool.{and_parts, and_from, eq-eqb, eqb-true, ne_eqb, false_from_ne_true, lt-ltb, le-leb, leb-true, cases_eq}
-use Rattle.std.proofs.lemmas.Fmt.{decimal_is_IsNumeral, digits_is_IsNumeral}
+use Rattle.std.specs.Str.Parse.{AllDigits}
+use Rattle.std.proofs.lemmas.Bool.{and_parts, eq-eqb, eqb-true, ne_eqb, false_from_ne_true, lt-ltb, le-leb}
+use Rattle.std.proofs.lemmas.Fmt.{decimal_is_IsNumeral}
 use Rattle.std.proofs.Common.{lit≤, lit<, get_or, unwrap_or}
 use Rattle.std.specs.Option.{option_eq}
 use Rattle.std.specs.Str.{bytes_eq}
@@ -22,8 +22,8 @@ use Rattle.fw_addr.specs.Hardware.{hex_octet, hex_octets, mac, mac_text}
 use Rattle.fw_addr.specs.Hexadecimal.{hex_byte}
 use Rattle.fw_addr.specs.Protocols.{proto, proto_names, proto_text}
 use Rattle.fw_text.specs.Number.{number, number_to}
-use Rattle.fw_text.specs.Pieces.{pieces, onto_first}
-use Rattle.fw_addr.specs.Ports.{Range, port, port_range, ports_text, range_of, range_to}
+use Rattle.fw_text.specs.Pieces.{pieces}
+use Rattle.fw_addr.specs.Ports.{Range, port, port_range, ports_text}
 
 -- a byte doesn't occur
 abbrev pub Lacks : ℕ → List ℕ → Type 0
@@ -83,6 +83,15 @@ pub pieces_join : (separator : ℕ) (first : List ℕ) (others : List (List ℕ)
 pieces_join separator first [] lacks all = pieces_last separator first lacks
 pieces_join separator first (next ∷ others) lacks all =
     pieces_next separator first (join_with_byte separator (next ∷ others)) lacks ∙ ap (λ (rest : List (List ℕ)). first ∷ rest) (pieces_join separator next others all.0 all.1)
+
+pub lacks_append : (byte : ℕ) (front text : List ℕ) → Lacks byte front → Lacks byte text → Lacks byte (front ++ text)
+lacks_append byte [] text lacks others = others
+lacks_append byte (first ∷ front) text lacks others = (lacks.0, lacks_append byte front text lacks.1 others)
+
+pub lacks_join : (separator byte : ℕ) (first : List ℕ) (others : List (List ℕ)) → eqb separator byte ≡ false → Lacks byte first → AllLack byte others → Lacks byte (join_with_byte separator (first ∷ others))
+lacks_join separator byte first [] other lacks all = lacks
+lacks_join separator byte first (next ∷ others) other lacks all =
+    lacks_append byte first (separator ∷ join_with_byte separator (next ∷ others)) lacks (other, lacks_join separator byte next others other all.0 all.1)
 
 -- the digits of a number in a base of 2 ^ j, one more of them
 pub recompose : (n k j : ℕ) → n / 2 ^ (k + j) * 2 ^ j + n / 2 ^ k % 2 ^ j ≡ n / 2 ^ k
@@ -190,3 +199,12 @@ proto_back reads n small = by_name (name_of proto_names n) refl
     by_name : (found : Option (List ℕ)) → name_of proto_names n ≡ found → proto (unwrap_or found (decimal n)) ≡ Some n
     by_name (Some name) is = rw (named_back proto_names proto_names proto_names_tell n name is) refl
     by_name None is = rw (unnamed proto_names (decimal n) refl digit) (number_to-decimal reads 255 n (omega arith) (omega arith))
+
+-- an IPv4 text has no `/`
+pub ipv4_lacks : (n : ℕ) → n < 2 ^ 32 → Lacks 47 (ipv4_text n)
+ipv4_lacks n small =
+    let lacks = λ (m : ℕ) (fits : m < 256). decimal_lacks 47 m (lit≤ tt) (omega (arith, fits)) in
+    let low = λ (k : ℕ). mod_below (n / 2 ^ k) 256 (lit< tt) in
+    let a : n / 2 ^ 24 < 256 = omega arith in
+    lacks_join 46 47 (decimal (n / 2 ^ 24)) (decimal (n / 2 ^ 16 % 256) ∷ decimal (n / 2 ^ 8 % 256) ∷ decimal (n % 256) ∷ []) refl
+    (lacks _ a) (lacks _ (low 16), (lacks _ (low 8), (lacks _ (mod_below n 256 (lit< tt)), tt)))

@@ -1,7 +1,9 @@
 pub mod GapLemmas
 pub mod GroupLemmas
 pub mod HexLemmas
+pub mod Ipv6Laws
 pub mod LawLemmas
+pub mod NetLaws
 pub mod NetLemmas
 pub mod PieceLemmas
 pub mod PowerLemmas

@@ -1,8 +1,13 @@
 //! What is printed reads back. Each function here is a law: its clause is all of it.
-ghost use Rattle.std.specs.Prelude.{◌≡◌, ℕ, ◌<◌, ◌≤◌, ◌^◌, Some};
+ghost use Rattle.std.specs.Prelude.{◌≡◌, ℕ, ◌<◌, ◌≤◌, ◌^◌, IsTrue, Some};
+ghost use Rattle.fw_addr.specs.Addresses.{address};
+ghost use Rattle.fw_addr.specs.Canonical.{address_text};
 ghost use Rattle.fw_addr.specs.Hardware.{mac, mac_text};
+ghost use Rattle.fw_addr.specs.Nets.{net, net_text};
 ghost use Rattle.fw_addr.specs.Protocols.{port_proto, port_proto_text, proto, proto_text};
 ghost use Rattle.fw_addr.specs.declared.proto.PortProto.{PortProto};
+ghost use Rattle.fw_addr.specs.Subnets.{Subnet, bits, is_subnet, width};
+ghost use Rattle.fw_addr.specs.declared.addr.Addr.{Addr};
 ghost use Rattle.fw_addr.specs.Ports.{Range, port_range, ports_text};
 
 use fw_text::decimal_is_read;
@@ -26,3 +31,17 @@ pub fn printed_protocols_are_read()
 pub fn printed_hardware_addresses_are_read()
     ensures { (n : ℕ) → n < 2 ^ 48 → mac (mac_text n) ≡ Some n }
 {}
+
+/// The text of an address is read as the address.
+pub fn printed_addresses_are_read()
+    ensures { (addr : Addr) → bits addr < 2 ^ width addr → address (address_text addr) ≡ Some addr }
+{
+    decimal_is_read();
+}
+
+/// The text of a net is read as the net.
+pub fn printed_nets_are_read()
+    ensures { (whole : Subnet) → IsTrue (is_subnet whole) → bits whole.address < 2 ^ width whole.address → net (net_text whole) ≡ Some whole }
+{
+    decimal_is_read();
+}
