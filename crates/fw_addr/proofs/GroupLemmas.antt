@@ -52,7 +52,7 @@ groups_full last front piece next rest value is full = rw is (over (groups last 
 -- eight groups, from those before a gap, as many zeros as it stands for, and those behind it
 pub fill_is : (before after front : List ℕ) (gap : ℕ) → length before + length after < 8 → gap ≡ 8 - (length before + length after) → Some front ≡ short (Some (before ++ take gap (replicate 8 0))) → short (Some (front ++ after)) ≡ filled before after
 fill_is before after front gap room is made =
-    let zeros : take gap (replicate 8 0) ≡ replicate gap 0 = take-replicate gap 8 0 (omega arith) in
+    let zeros : take {A = ℕ} gap (replicate 8 0) ≡ replicate gap 0 = take-replicate gap 8 0 (omega arith) in
     let many : length {A = ℕ} (replicate gap 0) ≡ gap = length-replicate gap 0 in
     let within : length (before ++ replicate gap 0) ≤ 8 = omega (arith, length-append before (replicate gap 0), many) in
     let cut : short (Some (before ++ take gap (replicate 8 0))) ≡ short (Some (before ++ replicate gap 0)) = ap (λ (list : List ℕ). short (Some (before ++ list))) zeros in

@@ -44,7 +44,7 @@ short_hex (suc k) n below small =
     ⊎_elim (λ digit. rw (hex_digit n digit) (omega arith))
     (λ more.
     let shorter : n / 16 < 16 ^ suc k = div_below n 16 (16 ^ suc k) (omega arith) (omega (arith, pow-suc 16 (suc k))) in
-    let front = short_hex k (n / 16) shorter (omega arith) in
+    let front : length (hex (n / 16)) ≤ suc k = short_hex k (n / 16) shorter (omega arith) in
     rw (hex_more n more small) (omega (arith, front, length-append {A = ℕ})))
     (cases_lt n 16)
 

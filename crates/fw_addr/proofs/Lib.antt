@@ -3,6 +3,7 @@ pub mod GroupLemmas
 pub mod HexLemmas
 pub mod Ipv6Laws
 pub mod LawLemmas
+pub mod MaskLaws
 pub mod NetLaws
 pub mod NetLemmas
 pub mod PieceLemmas

@@ -92,7 +92,7 @@ groups_around text (Some sides) = do
 abbrev pub ipv6 : List ℕ → Option ℕ
 ipv6 text = option_map (number_from_digits 65536) (groups_around text (around_gap text))
 
--- an address is an IPv4 text or an IPv6 text; none is both
+-- an address is an IPv4 text, or else an IPv6 text
 abbrev pub address : List ℕ → Option Addr
 address text = option_or (option_map V4 (ipv4 text)) (option_map V6 (ipv6 text))
 

@@ -1,9 +1,9 @@
 //! What is printed reads back. Each function here is a law: its clause is all of it.
-ghost use Rattle.std.specs.Prelude.{◌≡◌, ℕ, ◌<◌, ◌≤◌, ◌^◌, IsTrue, Some};
+ghost use Rattle.std.specs.Prelude.{◌≡◌, ℕ, ◌-◌, ◌<◌, ◌≤◌, ◌^◌, IsTrue, Some};
 ghost use Rattle.fw_addr.specs.Addresses.{address};
 ghost use Rattle.fw_addr.specs.Canonical.{address_text};
 ghost use Rattle.fw_addr.specs.Hardware.{mac, mac_text};
-ghost use Rattle.fw_addr.specs.Nets.{net, net_text};
+ghost use Rattle.fw_addr.specs.Nets.{mask_length, net, net_text};
 ghost use Rattle.fw_addr.specs.Protocols.{port_proto, port_proto_text, proto, proto_text};
 ghost use Rattle.fw_addr.specs.declared.proto.PortProto.{PortProto};
 ghost use Rattle.fw_addr.specs.Subnets.{Subnet, bits, is_subnet, width};
@@ -45,3 +45,8 @@ pub fn printed_nets_are_read()
 {
     decimal_is_read();
 }
+
+/// A mask of ones and then zeros is read as the number of its ones.
+pub fn masks_are_read()
+    ensures { (ones : ℕ) → ones ≤ 32 → mask_length (2 ^ 32 - 2 ^ (32 - ones)) ≡ Some ones }
+{}

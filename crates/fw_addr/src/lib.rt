@@ -30,8 +30,8 @@ pub use error::AddrError;
 pub use icmp::{IcmpNumbers, icmp_numbers};
 pub use iface::{Iface, read_iface};
 pub use laws::{
-    printed_addresses_are_read, printed_hardware_addresses_are_read, printed_nets_are_read,
-    printed_ports_are_read, printed_protocols_are_read,
+    masks_are_read, printed_addresses_are_read, printed_hardware_addresses_are_read,
+    printed_nets_are_read, printed_ports_are_read, printed_protocols_are_read,
 };
 pub use limit::{Limit, Unit};
 pub use log::{Level, LogKind, LogLine};

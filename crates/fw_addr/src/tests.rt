@@ -1,6 +1,6 @@
 //! Texts with their canonical forms, from RFC 4291, RFC 5952, nft(8) and the manual pages of firewalld.
 use super::*;
-use fw_base::Text;
+use fw_base::{Memory, Text, TryCopy};
 use std::alloc::Global;
 
 fn canonical_net(alloc: Global, text: &str) -> Option<Text> {
@@ -228,4 +228,56 @@ fn names(rt: HostRuntime) {
     assert!(rt; is_well_formed_name("web-site_2.x"));
     assert!(rt; !is_well_formed_name(""));
     assert!(rt; !is_well_formed_name("a b"));
+}
+
+/// The values that callers copy, each of them once.
+fn copies(alloc: Global) -> Result<bool, Memory> {
+    let line = LogLine {
+        kind: LogKind::Audit,
+        level: Level::Notice,
+        prefix: Text::of(alloc, "accept")?,
+    };
+    let line = line.copy(alloc)?;
+    let dnat = Dnat {
+        addr: Some(Addr::V4(1)),
+        port: Some(80),
+    };
+    let limit = Limit {
+        count: 3,
+        unit: Unit::Minute,
+    };
+    let same = dnat.copy(alloc)? == dnat
+        && limit.copy(alloc)? == limit
+        && limit.unit.copy(alloc)? == Unit::Minute
+        && Addr::V6(1).copy(alloc)? == Addr::V6(1)
+        && Net::new(Addr::V4(1), 32).copy(alloc)? == Net::new(Addr::V4(1), 32)
+        && Proto(6).copy(alloc)? == Proto(6)
+        && PortProto::Udp.copy(alloc)? == PortProto::Udp
+        && Mac(7).copy(alloc)? == Mac(7)
+        && Family::V6.copy(alloc)? == Family::V6
+        && CtState::Related.copy(alloc)? == CtState::Related
+        && PktType::Multicast.copy(alloc)? == PktType::Multicast
+        && RejectType::TcpReset.copy(alloc)? == RejectType::TcpReset;
+    let range = PortRange { first: 1, last: 2 };
+    let numbers = IcmpNumbers {
+        v4: Some(8),
+        v6: None,
+    };
+    let iface = match read_iface("eth+") {
+        Ok(iface) => iface.copy(alloc)?.matches("eth0"),
+        Err(_) => false,
+    };
+    Ok(
+        same && iface
+            && range.copy(alloc)? == range
+            && numbers.copy(alloc)? == numbers
+            && line.kind.copy(alloc)? == LogKind::Audit
+            && line.level.copy(alloc)? == Level::Notice
+            && line.prefix.as_str() == "accept",
+    )
+}
+
+#[test]
+fn copies_are_equal(rt: HostRuntime) {
+    assert!(rt; copies(rt.alloc()) == Ok(true));
 }
