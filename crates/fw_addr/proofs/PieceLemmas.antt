@@ -1,5 +1,5 @@
 -- What the pieces of a text look like.
-use Rattle.std.proofs.Common.{◌≡◌, ℕ, Bool, true, false, cond, eqb, List, [], ◌∷◌, Option, Some, None, Bor, refl}
+use Rattle.std.proofs.Common.{◌≡◌, ℕ, Bool, true, false, cond, eqb, List, [], ◌∷◌, Option, Some, None, Bor, refl, ap}
 use Rattle.std.specs.Option.{option_copied, is_some}
 use Rattle.fw_text.specs.Pieces.{pieces, onto_first, later_pieces}
 
@@ -20,3 +20,7 @@ some_piece separator (byte ∷ text) = starts (eqb byte separator) (pieces separ
 pub some_later_piece : (separator : ℕ) (left : Option (Bor (List ℕ))) → is_some left ≡ true → (first : List ℕ) × (rest : List (List ℕ)) × (later_pieces separator (option_copied left) ≡ first ∷ rest)
 some_later_piece separator None is = absurd (cc)
 some_later_piece separator (Some text) is = some_piece separator text.now
+
+-- the pieces from one piece on, where the pieces of what is left are known
+pub then : (separator : ℕ) (first : List ℕ) (left : Option (Bor (List ℕ))) (text : Bor (List ℕ)) (others : List (List ℕ)) → left ≡ Some text → pieces separator text.now ≡ others → first ∷ later_pieces separator (option_copied left) ≡ first ∷ others
+then separator first left text others is pieces_are = rw is (ap (λ (rest : List (List ℕ)). first ∷ rest) pieces_are)

@@ -1,11 +1,11 @@
 //! IP protocols: those with ports, and all of them by number.
 ghost use Rattle.std.specs.Prelude.{◌≡◌, IfOk};
-ghost use Rattle.std.specs.Option.{ok_or};
-ghost use Rattle.fw_text.specs.Names.{named};
+ghost use Rattle.std.specs.Option.{ok_or, option_copied};
+ghost use Rattle.fw_text.specs.Names.{name_of, named};
 ghost use Rattle.fw_addr.specs.Protocols.{port_proto, port_proto_text, proto, proto_names, proto_number, proto_text};
 
 use super::AddrError;
-use fw_base::{Memory, TryCopy};
+use fw_base::{Memory, Text, TryCopy};
 use fw_text::read_number;
 use std::alloc::Global;
 use std::marker::Model;
@@ -111,6 +111,35 @@ fn number_named(text: &str) -> Option<u8>
         "ah" => Some(51),
         "ipv6-icmp" => Some(58),
         "sctp" => Some(132),
+        _ => None,
+    }
+}
+
+/// The protocol as a text: its name where there is one, else its number.
+pub fn print_proto(alloc: Global, proto: &Proto) -> Result<Text, Memory>
+    ensures { IfOk result (λ text. text ≡ proto_text proto.now) }
+{
+    let number = proto.0;
+    match name_of(number) {
+        Some(name) => Text::of(alloc, name),
+        None => Ok(Text::from_string(format!(in alloc; "{number}")?)),
+    }
+}
+
+fn name_of(number: u8) -> Option<&'static str>
+    ensures { option_copied result ≡ name_of proto_names number }
+{
+    match number {
+        1 => Some("icmp"),
+        2 => Some("igmp"),
+        6 => Some("tcp"),
+        17 => Some("udp"),
+        33 => Some("dccp"),
+        47 => Some("gre"),
+        50 => Some("esp"),
+        51 => Some("ah"),
+        58 => Some("ipv6-icmp"),
+        132 => Some("sctp"),
         _ => None,
     }
 }
