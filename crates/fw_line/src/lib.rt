@@ -5,6 +5,7 @@ mod calls;
 mod error;
 mod line;
 mod lines;
+mod names;
 mod outcome_text;
 mod packets;
 mod quote;

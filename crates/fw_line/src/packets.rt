@@ -46,10 +46,20 @@ fn read_ipv4(text: &str) -> Result<Addr, LineError>
     ensures says { Says result (option_and_then only_v4 (address text.now)) }
     ensures v4 { IfOk result (λ addr. IsTrue (is_v4 addr)) }
 {
-    match read_addr(text) {
-        Ok(Addr::V4(address)) => Ok(Addr::V4(address)),
-        _ => Err(LineError::BadLine),
+    let Ok(addr) = read_addr(text) else {
+        return Err(LineError::BadLine);
+    };
+    if is_v4(&addr) {
+        Ok(addr)
+    } else {
+        Err(LineError::BadLine)
     }
+}
+
+fn is_v4(addr: &Addr) -> bool
+    ensures { result ≡ is_v4 addr.now }
+{
+    matches!(addr, Addr::V4(_))
 }
 
 /// A protocol that has ports, by its name or its number.

@@ -108,7 +108,7 @@ fn run_line(
         Line::Call(call) => run_call(machine, out, alloc, call),
         Line::Packet(packet) => {
             let outcome = machine.outcome(alloc, packet)?;
-            push_outcome(out, &outcome)
+            push_outcome(out, alloc, &outcome)
         }
     }
 }
