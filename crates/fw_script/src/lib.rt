@@ -15,3 +15,6 @@ pub use add_port::Refusal;
 pub use machine::FirstState;
 pub use status::Status;
 pub use top::{FirstRan, top_run};
+
+#[cfg(test)]
+mod tests;
