@@ -38,15 +38,15 @@ small_drop (suc k) (value ∷ values) small = small_drop k values small.1
 numeral : (n : ℕ) → n < 65536 → (0 < length (hex n)) × AllDigits 16 (hex n) × (digits_value 16 (hex n) ≡ n)
 numeral n small = let is = digits_is_IsNumeral 16 false (lit≤ tt) (lit≤ tt) n (omega arith) in (is.0.0, is.0.1, is.1)
 
+-- one digit more
+longer_hex : (k n : ℕ) → length (hex (n / 16)) ≤ k → 16 ≤ n → n < 65536 → length (hex n) ≤ suc k
+longer_hex k n front more small = rw (hex_more n more small) (omega (arith, front, length-append {A = ℕ}))
+
 short_hex : (k n : ℕ) → n < 16 ^ suc k → n < 65536 → length (hex n) ≤ suc k
 short_hex zero n below small = rw (hex_digit n (omega arith)) (lit≤ tt)
 short_hex (suc k) n below small =
-    ⊎_elim (λ digit. rw (hex_digit n digit) (omega arith))
-    (λ more.
     let shorter : n / 16 < 16 ^ suc k = div_below n 16 (16 ^ suc k) (omega arith) (omega (arith, pow-suc 16 (suc k))) in
-    let front : length (hex (n / 16)) ≤ suc k = short_hex k (n / 16) shorter (omega arith) in
-    rw (hex_more n more small) (omega (arith, front, length-append {A = ℕ})))
-    (cases_lt n 16)
+    ⊎_elim (λ digit. rw (hex_digit n digit) (omega arith)) (λ more. longer_hex (suc k) n (short_hex k (n / 16) shorter (omega arith)) more small) (cases_lt n 16)
 
 all_hex : (text : List ℕ) → AllDigits 16 text → list_all is_hex text ≡ true
 all_hex [] all = refl

@@ -1,5 +1,5 @@
 -- Each mask of ones and then zeros is read as the number of its ones.
-use Rattle.std.proofs.Common.{◌≡◌, ℕ, ◌-◌, ◌^◌, ◌<◌, ◌≤◌, Bool, true, eqb, Option, Some, None, refl, ap, arith}
+use Rattle.std.proofs.Common.{◌≡◌, ℕ, ◌-◌, ◌^◌, ◌≤◌, Bool, true, eqb, Option, Some, None, refl, ap, arith}
 use Rattle.std.specs.Option.{option_eq}
 use Rattle.std.proofs.lemmas.Bool.{agree_below_at, eqb-true}
 use lib.Count.{count_leading_zeros}
