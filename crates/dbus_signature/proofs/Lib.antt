@@ -1,0 +1,5 @@
+pub mod Complete
+pub mod KindLaws
+pub mod Loops
+pub mod Sound
+pub mod Whole
