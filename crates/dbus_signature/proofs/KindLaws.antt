@@ -1,6 +1,7 @@
 -- Types as their one level.
-use Rattle.std.proofs.Common.{◌≡◌, ℕ, zero, suc, ◌+◌, ◌-◌, ◌<◌, length, eqb, Ok, Err, Bool, true, false, cond, List, [], ◌∷◌, ◌++◌, refl, sym, ap, subst, ◌∙◌, arith}
+use Rattle.std.proofs.Common.{◌≡◌, ℕ, zero, suc, ◌+◌, ◌-◌, ◌<◌, length, eqb, Ok, Err, Bool, true, false, cond, List, [], ◌∷◌, ◌++◌, refl, sym, ap, subst, ◌∙◌, take, get_or, append_assoc, arith}
 use Rattle.std.proofs.lemmas.Bool.{ne_eqb}
+use Rattle.std.proofs.lemmas.List.{append-nil, take_more}
 use Rattle.std.specs.Prelude.{map, ◌&&◌}
 use Rattle.dbus_signature.specs.declared.kind.Basic.{Basic}
 use Rattle.dbus_signature.specs.declared.kind.Kind.{Kind}
@@ -66,3 +67,13 @@ opens_variant a s at text c next rest is moved letter = rw (is, moved, letter) (
 
 pub opens_end : (a s at : ℕ) → kind_at a s at [] ≡ Err at
 opens_end a s at = kind_at_opens a s at []
+
+pub ruleset spellings = (codes_plain, codes_variant, codes_array, codes_dict, codes_struct)
+
+all_codes_append : (xs ys : List Kind) → all_codes (xs ++ ys) ≡ all_codes xs ++ all_codes ys
+all_codes_append [] ys = refl
+all_codes_append (x ∷ xs) ys = ap (λ (t : List ℕ). codes x ++ t) (all_codes_append xs ys) ∙ sym (append_assoc (codes x) (all_codes xs) (all_codes ys))
+
+-- one more type
+pub all_codes_more : (kinds : List Kind) (i : ℕ) (d : Kind) → i < length kinds → all_codes (take (i + 1) kinds) ≡ all_codes (take i kinds) ++ codes (get_or kinds i d)
+all_codes_more kinds i d within = ap all_codes (take_more kinds i d within) ∙ all_codes_append (take i kinds) (get_or kinds i d ∷ []) ∙ ap (λ (t : List ℕ). all_codes (take i kinds) ++ t) (append-nil (codes (get_or kinds i d)))

@@ -6,7 +6,7 @@ use Rattle.std.proofs.lemmas.List.{length-append, append-nil}
 use Rattle.dbus_signature.specs.declared.kind.Kind.{Kind}
 use Rattle.dbus_signature.specs.Types.{codes, all_codes, nests}
 use Rattle.dbus_signature.specs.Reading.{◌>>=◌}
-use Rattle.dbus_signature.specs.Signatures.{kind_at, kinds_at, kinds_of, all_kinds, signature_of, IsSignature, IsOneType, max_nesting, max_length}
+use Rattle.dbus_signature.specs.Signatures.{kind_at, kinds_at, kinds_of, all_kinds, signature_of, IsSignature, IsOneType, SpellsType, max_nesting, max_length}
 use Rattle.dbus_signature.proofs.Sound.{bind_ok, ok_is, not_ok, chosen, done, kind_takes}
 use Rattle.dbus_signature.proofs.Complete.{starts, count_le, kind_again}
 
@@ -61,3 +61,28 @@ kinds_of_again text s =
 
 pub signature_again : (text : List ℕ) → IsSignature text → signature_of text ≡ Ok text
 signature_again text s = rw (kinds_of_again text s) refl
+
+abbrev read_one : ℕ → Kind × ℕ × List ℕ → Result (Kind × ℕ × List ℕ) ℕ
+read_one at x = Ok x
+
+pub one_type_again : (text : List ℕ) (k : Kind) → SpellsType text k → kind_at max_nesting max_nesting 0 text ≡ Ok (k, 0 + length (codes k), [])
+one_type_again text k s =
+    ap (kind_at max_nesting max_nesting 0) (s.spelt ∙ sym (append-nil (codes k))) ∙ kind_again 64 max_nesting max_nesting (omega arith) k 0 [] s.nested
+
+-- the type that is read of such a text is the one that it spells
+pub one_type_is : (text : List ℕ) (x : Kind × ℕ × List ℕ) → IsOneType text → kind_at max_nesting max_nesting 0 text ≡ Ok x → SpellsType text x.0
+one_type_is text x one e =
+    let same = ok_is (one.0, 0 + length (codes one.0), []) x (sym (one_type_again text one.0 one.1) ∙ e) in
+    subst (λ (y : Kind × ℕ × List ℕ). SpellsType text y.0) same one.1
+
+pub one_type_never_fails : (text : List ℕ) (place : ℕ) → IsOneType text → kind_at max_nesting max_nesting 0 text ≡ Err place → ⊥
+one_type_never_fails text place one e = not_ok place _ (sym e ∙ one_type_again text one.0 one.1)
+
+-- a text of one type is a signature
+pub type_is_signature : (text : List ℕ) (k : Kind) → SpellsType text k → IsSignature text
+type_is_signature text k s = record {
+  kinds = k ∷ [];
+  spelt = s.spelt ∙ sym (append-nil (codes k));
+  nested = and_from _ _ s.nested refl;
+  short = s.short;
+}

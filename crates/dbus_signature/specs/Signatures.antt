@@ -7,7 +7,7 @@ use Rattle.dbus_signature.specs.declared.kind.Basic.TheVariants as basic
 use Rattle.dbus_signature.specs.declared.kind.Kind.{Kind}
 use Rattle.dbus_signature.specs.declared.kind.Kind.TheVariants.{Basic as Plain, Variant, Array, Dict, Struct}
 use Rattle.dbus_signature.specs.Reading.{Read, Reader, ◌>>=◌}
-use Rattle.dbus_signature.specs.Types.{code, all_codes, nests}
+use Rattle.dbus_signature.specs.Types.{code, codes, all_codes, nests}
 
 -- how deep arrays and structs may nest, and how long a signature may be
 abbrev pub max_nesting : ℕ
@@ -23,12 +23,15 @@ pub record IsSignature (text : List ℕ) : Type 0 where
   pub nested : list_all (λ kind. nests kind max_nesting max_nesting) kinds ≡ true
   pub short : length text ≤ max_length
 
--- A signature of one complete type.
-pub record IsOneType (text : List ℕ) : Type 0 where
-  pub kind : Kind
-  pub spelt : text ≡ all_codes (kind ∷ [])
+-- The text spells this one type, within the limits.
+pub record SpellsType (text : List ℕ) (kind : Kind) : Type 0 where
+  pub spelt : text ≡ codes kind
   pub nested : nests kind max_nesting max_nesting ≡ true
   pub short : length text ≤ max_length
+
+-- A signature of one complete type.
+abbrev pub IsOneType : List ℕ → Type 0
+IsOneType text = (kind : Kind) × SpellsType text kind
 
 -- ---- the place of a fault
 

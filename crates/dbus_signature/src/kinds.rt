@@ -195,6 +195,16 @@ fn members_at(
     }
 }
 
+/// One complete type at a cursor, within the limits.
+///
+/// The place of Bad is the first byte that no such type has there, or the end where the bytes end too soon.
+pub fn one_kind_at(alloc: Global, from: Cursor<'_>) -> Result<(Kind, Cursor<'_>), WireError>
+    ensures exact { Gives seen result (read_at (kind_at 32 32) from.entry) }
+    ensures shorter { IfOk result (Shortens from.entry) }
+{
+    kind_at(alloc, MAX_NESTING, MAX_NESTING, from)
+}
+
 /// Types in a row, up to the end of the bytes.
 pub fn kinds_at(alloc: Global, from: Cursor<'_>) -> Result<Items<Kind>, WireError>
     ensures { Gives (λ kinds. kinds) result (kinds_at (length from.entry.rest.now) from.entry.at from.entry.rest.now) }

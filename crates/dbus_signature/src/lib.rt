@@ -6,8 +6,13 @@ mod error;
 mod kind;
 mod kinds;
 mod signature;
+mod spelling;
 
 pub use cursor::Cursor;
 pub use error::WireError;
 pub use kind::{Basic, Kind};
-pub use signature::Signature;
+pub use kinds::{kinds_at, one_kind_at};
+pub use signature::{Signature, read_signature};
+
+#[cfg(test)]
+mod tests;

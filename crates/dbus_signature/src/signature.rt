@@ -3,12 +3,14 @@
 ghost use Rattle.std.specs.Prelude.{◌≡◌, ◌≤◌, ◌<◌, length, List, IfOk};
 ghost use Rattle.dbus_signature.specs.Cursors.{read_at, seen};
 ghost use Rattle.dbus_signature.specs.Reading.{Gives};
+ghost use Rattle.dbus_signature.specs.Types.{codes};
 ghost use Rattle.dbus_signature.specs.Signatures.{IsSignature, kinds_of, signature_of};
 
 use crate::cursor::Cursor;
 use crate::error::WireError;
 use crate::kind::Kind;
-use crate::kinds::kinds_at;
+use crate::kinds::{kinds_at, one_kind_at};
+use crate::spelling::push_codes;
 use fw_base::{Memory, TryCopy};
 use sqlite_items::Items;
 use std::alloc::Global;
@@ -45,6 +47,45 @@ impl Signature {
         ensures valid { IsSignature self.now }
     {
         self.bytes.as_slice()
+    }
+}
+
+impl Signature {
+    ghost use Rattle.dbus_signature.specs.Signatures.{IsSignature, IsOneType, SpellsType};
+
+    /// The signature of a text that is known to be one.
+    pub fn of_text(alloc: Global, text: &[u8]) -> Result<Signature, Memory>
+        requires { IsSignature text.now }
+        ensures { IfOk result (λ signature. signature ≡ text.now) }
+    {
+        let bytes = Vec::from_slice(alloc, text)?;
+        Ok(Signature { bytes })
+    }
+
+    /// The signature of one type, which keeps the limits.
+    pub fn of_kind(alloc: Global, kind: &Kind) -> Result<Signature, Memory>
+        requires { SpellsType (codes kind.now) kind.now }
+        ensures { IfOk result (λ signature. signature ≡ codes kind.now) }
+    {
+        let mut bytes = Vec::new(alloc);
+        push_codes(&mut bytes, kind)?;
+        Ok(Signature { bytes })
+    }
+
+    /// The type of a signature of one complete type.
+    pub fn kind(&self, alloc: Global) -> Result<Kind, Memory>
+        requires { IsOneType self.now }
+        ensures { IfOk result (SpellsType self.now) }
+    {
+        let from = Cursor {
+            at: 0,
+            rest: self.as_bytes(),
+        };
+        match one_kind_at(alloc, from) {
+            Ok((kind, _)) => Ok(kind),
+            Err(WireError::Memory) => Err(Memory),
+            Err(WireError::Bad(_)) => unreachable!(),
+        }
     }
 }
 
