@@ -30,10 +30,10 @@ found x at rest = Ok (x, at, rest)
 moved_to : {A : Type 0} (x : A) (m n : ℕ) (rest : List ℕ) → m ≡ n → found x m rest ≡ found x n rest
 moved_to {A} x m n rest e = ap (λ (k : ℕ). found x k rest) e
 
-nests_empty : (a s : ℕ) → nests (Struct []) a s ≡ false
+pub nests_empty : (a s : ℕ) → nests (Struct []) a s ≡ false
 nests_empty a s = ap (λ (k : Kind). nests k a s) (sym (rolls-Struct [])) ∙ ap (λ (f : ℕ → ℕ → Bool). f a s) (fold-roll-Kind (ℕ → ℕ → Bool) nests_step (Kind-F.Struct []))
 
-nests_no_struct : (k : Kind) (ks : List Kind) (a : ℕ) → nests (Struct (k ∷ ks)) a 0 ≡ false
+pub nests_no_struct : (k : Kind) (ks : List Kind) (a : ℕ) → nests (Struct (k ∷ ks)) a 0 ≡ false
 nests_no_struct k ks a = ap (λ (x : Kind). nests x a 0) (sym (rolls-Struct (k ∷ ks))) ∙ ap (λ (f : ℕ → ℕ → Bool). f a 0) (fold-roll-Kind (ℕ → ℕ → Bool) nests_step (Kind-F.Struct (k ∷ ks)))
 
 -- a type's first letter, which closes nothing and opens no entry

@@ -1,4 +1,5 @@
 pub mod Complete
+pub mod Inner
 pub mod KindLaws
 pub mod Loops
 pub mod Sound

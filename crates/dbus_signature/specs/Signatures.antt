@@ -29,6 +29,10 @@ pub record SpellsType (text : List ℕ) (kind : Kind) : Type 0 where
   pub nested : nests kind max_nesting max_nesting ≡ true
   pub short : length text ≤ max_length
 
+-- a type that keeps the limits
+abbrev pub IsKind : Kind → Type 0
+IsKind kind = SpellsType (codes kind) kind
+
 -- A signature of one complete type.
 abbrev pub IsOneType : List ℕ → Type 0
 IsOneType text = (kind : Kind) × SpellsType text kind

@@ -51,7 +51,7 @@ impl Signature {
 }
 
 impl Signature {
-    ghost use Rattle.dbus_signature.specs.Signatures.{IsSignature, IsOneType, SpellsType};
+    ghost use Rattle.dbus_signature.specs.Signatures.{IsKind, IsSignature, IsOneType, SpellsType};
 
     /// The signature of a text that is known to be one.
     pub fn of_text(alloc: Global, text: &[u8]) -> Result<Signature, Memory>
@@ -64,7 +64,7 @@ impl Signature {
 
     /// The signature of one type, which keeps the limits.
     pub fn of_kind(alloc: Global, kind: &Kind) -> Result<Signature, Memory>
-        requires { SpellsType (codes kind.now) kind.now }
+        requires { IsKind kind.now }
         ensures { IfOk result (λ signature. signature ≡ codes kind.now) }
     {
         let mut bytes = Vec::new(alloc);
