@@ -74,12 +74,12 @@ signature_at at text = do
   Ok (take n.0 n.2, nul.1, nul.2)
 
 -- A signature of one complete type, which is given with it. The first code of a second type is at fault.
-abbrev pub one_type_of : List ℕ → List ℕ → Kind × ℕ × List ℕ → Read (Kind × List ℕ)
-one_type_of codes after kind =
-    if length kind.2 == 0 then (zeros_at 1 kind.1 after >>= λ nul. Ok ((kind.0, codes), nul.1, nul.2)) else Err kind.1
+abbrev pub one_type_of : ℕ → List ℕ → List ℕ → Kind × ℕ × List ℕ → Read (Kind × List ℕ)
+one_type_of end codes after kind =
+    if length kind.2 == 0 then (zeros_at 1 end after >>= λ nul. Ok ((kind.0, codes), nul.1, nul.2)) else Err kind.1
 
 unfoldable pub type_at : Reader (Kind × List ℕ)
 type_at at text = do
   n ← byte_at at text
   kind ← kind_at 32 32 n.1 (take n.0 n.2)
-  one_type_of (take n.0 n.2) (drop n.0 n.2) kind
+  one_type_of (n.1 + length (take n.0 n.2)) (take n.0 n.2) (drop n.0 n.2) kind

@@ -1,3 +1,5 @@
 pub mod Texts
 pub mod Fields
 pub mod Seen
+pub mod Values
+pub mod Elements

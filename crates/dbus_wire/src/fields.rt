@@ -76,7 +76,7 @@ pub fn u32_at(endian: Endian, from: Cursor<'_>) -> Result<(u32, Cursor<'_>), Wir
 }
 
 /// A number of four bytes.
-fn plain_u32_at(endian: Endian, from: Cursor<'_>) -> Result<(u32, Cursor<'_>), WireError>
+pub fn plain_u32_at(endian: Endian, from: Cursor<'_>) -> Result<(u32, Cursor<'_>), WireError>
     ensures { Gives seen result (read_at (number_at endian w32) from.entry) }
 {
     if from.rest.len() < 4 {

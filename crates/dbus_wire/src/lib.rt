@@ -2,6 +2,7 @@
 #![tactic(auto)]
 
 mod fields;
+mod reading;
 mod strings;
 mod texts;
 mod value;

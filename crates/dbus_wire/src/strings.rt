@@ -1,10 +1,11 @@
 //! Reads texts, object paths and signatures.
 
-ghost use Rattle.std.specs.Prelude.{◌≡◌, ◌+◌, length, IfOk, IfSome, IfNone, true, false};
+ghost use Rattle.std.specs.Prelude.{◌≡◌, ◌+◌, ◌≤◌, length, take, drop, IfOk, IfSome, IfNone, true, false};
 ghost use Rattle.dbus_signature.specs.Cursors.{read_at, seen};
 ghost use Rattle.dbus_signature.specs.Reading.{Gives};
 ghost use Rattle.dbus_wire.specs.Texts.{is_text, is_path, is_string};
 ghost use Rattle.dbus_wire.specs.Fields.{ended_at, signature_at, text_at, type_at, zeros_at};
+ghost use Rattle.dbus_signature.specs.Signatures.{IsKind};
 ghost use Rattle.dbus_wire.specs.Seen.{seen_type};
 
 use crate::fields::{byte_at, u32_at, zeros_at};
@@ -72,4 +73,81 @@ pub fn string_at(
 {
     let (count, start) = u32_at(endian, from)?;
     ended_at(alloc, kind, count as usize, start)
+}
+
+/// The first bytes, as many as are there of so many, and the others.
+pub fn front_of(bytes: &[u8], count: usize) -> (&[u8], &[u8])
+    ensures front { result.0.now ≡ take count bytes.now }
+    ensures others { result.1.now ≡ drop count bytes.now }
+{
+    if bytes.len() < count {
+        (bytes, &[])
+    } else {
+        bytes.split_at(count)
+    }
+}
+
+/// The codes of a signature, as many as are there of so many, and the bytes after them.
+fn codes_of(bytes: &[u8], count: u8) -> (&[u8], &[u8])
+    ensures front { result.0.now ≡ take count bytes.now }
+    ensures others { result.1.now ≡ drop count bytes.now }
+    ensures short { length result.0.now ≤ 255 }
+{
+    front_of(bytes, count as usize)
+}
+
+/// A signature behind its length.
+///
+/// The place of Bad is that of the first code that no signature has there, or of the byte that is missing.
+#[tactic(auto, unfolding(crate::specs::Fields::signature_at))]
+pub fn signature_at(
+    alloc: Global,
+    from: Cursor<'_>,
+) -> Result<(Signature, Cursor<'_>), WireError>
+    ensures { Gives seen result (read_at signature_at from.entry) }
+{
+    let (count, start) = byte_at(from)?;
+    let (front, rest) = codes_of(start.rest, count);
+    let codes = Cursor {
+        at: start.at,
+        rest: front,
+    };
+    kinds_at(alloc, codes)?;
+    let end = Cursor {
+        at: start.at + front.len(),
+        rest,
+    };
+    let ((), after) = zeros_at(1, end)?;
+    let signature = Signature::of_text(alloc, front)?;
+    Ok((signature, after))
+}
+
+/// A signature of one complete type, and that type.
+///
+/// The place of Bad is as for a signature; the first code of a second type is at fault.
+#[tactic(auto, unfolding(crate::specs::Fields::type_at))]
+pub fn type_at(
+    alloc: Global,
+    from: Cursor<'_>,
+) -> Result<(Kind, Signature, Cursor<'_>), WireError>
+    ensures exact { Gives seen_type result (read_at type_at from.entry) }
+    ensures valid { IfOk result (λ found. IsKind found.0) }
+{
+    let (count, start) = byte_at(from)?;
+    let (front, rest) = codes_of(start.rest, count);
+    let codes = Cursor {
+        at: start.at,
+        rest: front,
+    };
+    let (kind, last) = one_kind_at(alloc, codes)?;
+    if !last.rest.is_empty() {
+        return Err(WireError::Bad(last.at));
+    }
+    let end = Cursor {
+        at: start.at + front.len(),
+        rest,
+    };
+    let ((), after) = zeros_at(1, end)?;
+    let signature = Signature::of_text(alloc, front)?;
+    Ok((kind, signature, after))
 }
