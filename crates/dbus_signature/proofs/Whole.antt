@@ -86,3 +86,9 @@ type_is_signature text k s = record {
   nested = and_from _ _ s.nested refl;
   short = s.short;
 }
+
+-- a text spells one type at most
+pub one_kind : (text : List ℕ) (k l : Kind) → SpellsType text k → SpellsType text l → k ≡ l
+one_kind text k l s t =
+    let same = ok_is (k, 0 + length (codes k), []) (l, 0 + length (codes l), []) (sym (one_type_again text k s) ∙ one_type_again text l t) in
+    ap (λ (x : Kind × ℕ × List ℕ). x.0) same

@@ -4,8 +4,8 @@ use Rattle.dbus_signature.specs.Reading.{Reader}
 use Rattle.dbus_signature.specs.Signatures.{IsKind}
 use Rattle.dbus_wire.specs.declared.value.Endian.{Endian}
 use Rattle.dbus_wire.specs.declared.value.Value.{Value}
-use Rattle.dbus_wire.specs.declared.reading.Element.{Element}
-use Rattle.dbus_wire.specs.declared.reading.Element.TheVariants as element
+use Rattle.dbus_wire.specs.declared.containers.Element.{Element}
+use Rattle.dbus_wire.specs.declared.containers.Element.TheVariants as element
 use Rattle.dbus_wire.specs.Values.{value_at, entry_at}
 
 -- a value or an entry of an array

@@ -80,13 +80,13 @@ items_at item (suc n) at (c ∷ text) = do
   Ok (first.0 ∷ others.0, others.1, others.2)
 
 -- The items in so many bytes. Where fewer are there, the end is at fault, behind the items before it.
-abbrev pub whole_items : ℕ → List ℕ → List Value × ℕ × List ℕ → Read (List Value)
-whole_items n text items = if nat_lt (length text) n then Err items.1 else Ok (items.0, items.1, drop n text)
+abbrev pub whole_items : ℕ → ℕ → List ℕ → List Value × ℕ × List ℕ → Read (List Value)
+whole_items n end text items = if nat_lt (length text) n then Err end else Ok (items.0, end, drop n text)
 
 unfoldable pub contents_at : Reader Value → ℕ → Reader (List Value)
 contents_at item n at text = do
   items ← items_at item (length (take n text)) at (take n text)
-  whole_items n text items
+  whole_items n (at + length (take n text)) text items
 
 -- The length in bytes, the padding of the first item, which the length leaves out, and the items.
 abbrev pub within_limit : ℕ → ℕ × ℕ × List ℕ → Read ℕ
@@ -129,30 +129,37 @@ pair_at endian key read at text = do
   second ← read first.1 first.2
   Ok (value.Pair first.0 second.0, second.1, second.2)
 
--- A value of a type, by its one level, where so many containers may still be opened. A container that may not is at
--- fault where it would begin, before its padding.
-abbrev pub value_by : Endian → ℕ → (Kind → Reader Value) → (Basic → Kind → Reader Value) → Kind → Kind-F Kind → Reader Value
-value_by endian room read entry kind (Kind-F.Basic basic) at text = basic_value_at endian basic at text
-value_by endian room read entry kind Kind-F.Variant at text = if room == 0 then Err at else variant_at read at text
-value_by endian room read entry kind (Kind-F.Array element) at text =
-    if room == 0 then Err at else as_value (value.Array (codes kind)) (array_at endian (alignment element) (read element) at text)
-value_by endian room read entry kind (Kind-F.Dict key inner) at text =
-    if room == 0 then Err at else as_value (value.Array (codes kind)) (array_at endian 8 (entry key inner) at text)
-value_by endian room read entry kind (Kind-F.Struct members) at text = if room == 0 then Err at else struct_at read members at text
+-- A value of a type, by its one level: what stands in it is read by these readers.
+abbrev pub value_by : Endian → (Kind → Reader Value) → (Basic → Kind → Reader Value) → Kind → Kind-F Kind → Reader Value
+value_by endian read entry kind (Kind-F.Basic basic) at text = basic_value_at endian basic at text
+value_by endian read entry kind Kind-F.Variant at text = variant_at read at text
+value_by endian read entry kind (Kind-F.Array element) at text = as_value (value.Array (codes kind)) (array_at endian (alignment element) (read element) at text)
+value_by endian read entry kind (Kind-F.Dict key inner) at text = as_value (value.Array (codes kind)) (array_at endian 8 (entry key inner) at text)
+value_by endian read entry kind (Kind-F.Struct members) at text = struct_at read members at text
 
-abbrev pub no_value : Kind → Reader Value
-no_value kind at text = Err at
-
-abbrev pub no_entry : Basic → Kind → Reader Value
-no_entry key kind at text = Err at
+-- A value where no container may be opened. One is at fault where it would begin, before its padding.
+abbrev pub closed_value_by : Endian → Kind-F Kind → Reader Value
+closed_value_by endian (Kind-F.Basic basic) at text = basic_value_at endian basic at text
+closed_value_by endian layer at text = Err at
 
 unfoldable mutual
   -- a value of a type, where so many containers may still be opened
   pub value_at : Endian → ℕ → Kind → Reader Value
-  value_at endian zero kind = value_by endian 0 no_value no_entry kind (out-Kind kind)
-  value_at endian (suc room) kind = value_by endian (suc room) (value_at endian room) (entry_at endian room) kind (out-Kind kind)
+  value_at endian zero kind = closed_value_by endian (out-Kind kind)
+  value_at endian (suc room) kind = value_by endian (value_at endian room) (entry_at endian room) kind (out-Kind kind)
 
   -- an entry of a dict, which is a container too
   pub entry_at : Endian → ℕ → Basic → Kind → Reader Value
-  entry_at endian zero key kind = no_entry key kind
-  entry_at endian (suc room) key kind = pair_at endian key (value_at endian room kind)
+  entry_at endian zero key kind at text = Err at
+  entry_at endian (suc room) key kind at text = pair_at endian key (value_at endian room kind) at text
+
+-- a value where one container was opened, and so many may be
+abbrev pub open_value_at : Endian → ℕ → Kind → Reader Value
+open_value_at endian room kind = value_by endian (value_at endian room) (entry_at endian room) kind (out-Kind kind)
+
+abbrev pub closed_value_at : Endian → Kind → Reader Value
+closed_value_at endian kind = closed_value_by endian (out-Kind kind)
+
+-- The value at an offset in bytes, and the offset after it; or the place of the fault.
+abbrev pub value_of : Endian → Kind → ℕ → List ℕ → Result (Value × ℕ) ℕ
+value_of endian kind offset bytes = value_at endian max_open kind offset (drop offset bytes) >>= λ found. Ok (found.0, found.1)

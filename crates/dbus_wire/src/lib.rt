@@ -1,11 +1,14 @@
 //! D-Bus values as bytes, in both byte orders: read and written exactly by the D-Bus Specification's marshalling.
 #![tactic(auto)]
 
+mod basics;
+mod containers;
 mod fields;
-mod reading;
+mod read;
 mod strings;
 mod texts;
 mod value;
 
 pub use dbus_signature::{Signature, WireError, read_signature};
+pub use read::read_value;
 pub use value::{Endian, Value};

@@ -1,31 +1,18 @@
-//! Reads values by their type.
+//! Reads values that hold no others.
 
-ghost use Rattle.std.specs.Prelude.{◌≡◌, ◌<◌, length, All, IfOk};
+ghost use Rattle.std.specs.Prelude.{◌≡◌, ◌<◌, length};
 ghost use Rattle.dbus_signature.specs.Cursors.{read_at, seen};
 ghost use Rattle.dbus_signature.specs.Reading.{Gives};
-ghost use Rattle.dbus_signature.specs.Signatures.{IsKind};
-ghost use Rattle.dbus_wire.specs.Elements.{element_at, ElementIs};
-ghost use Rattle.dbus_wire.specs.Values.{alignment, array_at, basic_alignment, basic_value_at, contents_at, entry_at, items_at, members_at, pair_at, struct_at, value_at, variant_at};
+ghost use Rattle.dbus_wire.specs.Values.{alignment, basic_alignment, basic_value_at};
 
-use crate::fields::{bool_at, byte_at, padding_at, plain_u32_at, u16_at, u32_at, u64_at};
-use crate::strings::{StringKind, front_of, signature_at, string_at, type_at};
+use crate::fields::{bool_at, byte_at, u16_at, u32_at, u64_at};
+use crate::strings::{StringKind, signature_at, string_at};
 use crate::value::{Endian, Value};
-use dbus_signature::{Basic, Cursor, Kind, Signature, WireError};
-use sqlite_items::{Boxed, Items};
+use dbus_signature::{Basic, Cursor, Kind, WireError};
 use std::alloc::Global;
 
-/// How many bytes an array may have.
-const MAX_ARRAY: usize = 67_108_864;
-
-/// What an array holds: values of a type, or entries of a key and a value.
-#[derive(Clone, Copy)]
-pub enum Element<'a> {
-    Whole(&'a Kind),
-    Entry(Basic, &'a Kind),
-}
-
 /// A value that holds no others.
-fn basic_value_at(
+pub fn basic_value_at(
     alloc: Global,
     endian: Endian,
     basic: Basic,
@@ -101,7 +88,7 @@ fn basic_alignment(basic: Basic) -> usize
 }
 
 /// What a type's values begin at a multiple of.
-fn alignment(kind: &Kind) -> usize
+pub fn alignment(kind: &Kind) -> usize
     ensures exact { result ≡ alignment kind.now }
     ensures some { 0 < result }
 {
