@@ -3,3 +3,5 @@ pub mod Fields
 pub mod Seen
 pub mod Values
 pub mod Elements
+pub mod Spelling
+pub mod Fits

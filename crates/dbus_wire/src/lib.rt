@@ -4,10 +4,12 @@
 mod basics;
 mod containers;
 mod fields;
+mod numbers;
 mod read;
 mod strings;
 mod texts;
 mod value;
+mod writing;
 
 pub use dbus_signature::{Signature, WireError, read_signature};
 pub use read::read_value;
