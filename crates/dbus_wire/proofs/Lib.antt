@@ -1,8 +1,10 @@
 pub mod Again
 pub mod BasicAgain
 pub mod FieldLaws
+pub mod Laws
 pub mod PatchLaws
 pub mod Some
 pub mod SpellingLaws
 pub mod StringLaws
+pub mod ValueAgain
 pub mod ValueLaws

@@ -14,3 +14,4 @@ mod writing;
 pub use dbus_signature::{Signature, WireError, read_signature};
 pub use read::read_value;
 pub use value::{Endian, Value};
+pub use writing::write_value;

@@ -1,6 +1,6 @@
 //! Writes values.
 
-ghost use Rattle.std.specs.Prelude.{◌≡◌, ◌<◌, ◌^◌, ◌++◌, length, OnOk};
+ghost use Rattle.std.specs.Prelude.{◌≡◌, ◌<◌, ◌^◌, ◌++◌, length, OnOk, OnErr};
 ghost use Rattle.dbus_wire.specs.Spelling.{array_spelling, element_alignment, letter_alignment, spelling, spellings};
 
 use crate::numbers::{push_padding, push_signature, push_text, push_u16, push_u32, push_u64, set_u32};
@@ -34,7 +34,7 @@ fn element_alignment(codes: &[u8]) -> usize
 /// Appends the spelling of a value at the offset where the bytes end.
 #[cycle(writing)]
 #[tactic(auto, using(crate::proofs::SpellingLaws::spelt))]
-pub fn push_value(out: &mut Vec<u8>, endian: Endian, value: &Value) -> Result<(), Memory>
+fn push_value(out: &mut Vec<u8>, endian: Endian, value: &Value) -> Result<(), Memory>
     requires { length (spelling endian value.now (length out.old.items)) < 2 ^ 32 }
     ensures { OnOk result (out.new.items ≡ out.old.items ++ spelling endian value.now (length out.old.items)) }
 {
@@ -107,5 +107,19 @@ fn push_array(
     push_all(out, endian, values)?;
     let count = (out.len() - start) as u32;
     set_u32(out, place, endian, count);
+    Ok(())
+}
+
+/// Appends a value's one spelling at the offset where the bytes end.
+///
+/// Needs less than 4 GiB of spelling; a message has less. For want of memory the bytes are as before.
+pub fn write_value(value: &Value, endian: Endian, out: &mut Vec<u8>) -> Result<(), Memory>
+    requires { length (spelling endian value.now (length out.old.items)) < 2 ^ 32 }
+    ensures ok { OnOk result (out.new.items ≡ out.old.items ++ spelling endian value.now (length out.old.items)) }
+    ensures err { OnErr result (out.new.items ≡ out.old.items) }
+{
+    let mut longer = out.clone()?;
+    push_value(&mut longer, endian, value)?;
+    *out = longer;
     Ok(())
 }
