@@ -70,10 +70,14 @@ members_are (k ∷ ks) nested short =
     let len = length-append (codes k) (all_codes ks) in
     (record { spelt = refl; nested = grows 63 max_nesting 31 max_nesting max_nesting (omega arith) (omega arith) (omega arith) k both.0; short = omega arith }, members_are ks both.1 (omega arith))
 
-all_members_are : (ks : List Kind) → IsKind (Struct ks) → AllByRecursion IsKind ks
+pub all_members_are : (ks : List Kind) → IsKind (Struct ks) → AllByRecursion IsKind ks
 all_members_are [] is = tt
 all_members_are (k ∷ ks) is =
     members_are (k ∷ ks) (sym (nests_struct k ks max_nesting 31) ∙ is.nested) (omega (arith, is.short, ap length (codes_struct (k ∷ ks)), length-append (all_codes (k ∷ ks)) (41 ∷ [])))
 
 pub members_is : (ks : List Kind) → IsKind (Struct ks) → All IsKind ks
 members_is ks is = All-from_recursion IsKind ks (all_members_are ks is)
+
+pub struct_some : (ks : List Kind) → IsKind (Struct ks) → 0 < length ks
+struct_some [] is = absurd (false_true (sym (nests_empty max_nesting max_nesting) ∙ is.nested))
+struct_some (k ∷ ks) is = omega arith

@@ -8,3 +8,6 @@ pub mod SpellingLaws
 pub mod StringLaws
 pub mod ValueAgain
 pub mod ValueLaws
+pub mod Took
+pub mod BasicTook
+pub mod ValueTook
