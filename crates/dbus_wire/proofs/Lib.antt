@@ -1,7 +1,7 @@
 pub mod Again
 pub mod BasicAgain
 pub mod FieldLaws
-pub mod Laws
+pub mod RoundTrip
 pub mod PatchLaws
 pub mod Some
 pub mod SpellingLaws
@@ -11,3 +11,4 @@ pub mod ValueLaws
 pub mod Took
 pub mod BasicTook
 pub mod ValueTook
+pub mod ReadLaws

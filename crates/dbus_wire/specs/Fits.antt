@@ -1,6 +1,6 @@
 -- Which values have a spelling as a type, and which bytes spell a value (D-Bus Specification, "Type System" for the
 -- ranges, "Marshaling (Wire Format)" for the spelling, "Valid Signatures" and "Message Format" for the limits).
-use Rattle.std.specs.Prelude.{◌≡◌, ℕ, zero, suc, ◌+◌, ◌^◌, ◌<◌, ◌≤◌, Bool, true, List, [], ◌∷◌, length}
+use Rattle.std.specs.Prelude.{◌≡◌, ℕ, zero, suc, ◌+◌, ◌^◌, ◌<◌, ◌≤◌, Bool, true, List, [], ◌∷◌, ◌++◌, length, drop}
 use Rattle.std.specs.Int.{w16, w32, w64, cast_signed}
 use Rattle.dbus_signature.specs.declared.kind.Basic.{Basic}
 use Rattle.dbus_signature.specs.declared.kind.Basic.TheVariants as basic
@@ -98,3 +98,11 @@ unfoldable mutual
 pub record Spells (endian : Endian) (kind : Kind) (at : ℕ) (bytes : List ℕ) (v : Value) : Type 0 where
   pub fits : Fits endian max_open kind at v
   pub bytes_are : bytes ≡ spelling endian v at
+
+-- A value is spelt at an offset in bytes, up to the offset that stands behind it.
+pub record SpeltThere (endian : Endian) (kind : Kind) (offset : ℕ) (bytes : List ℕ) (found : Value × ℕ) : Type 0 where
+  pub text : List ℕ
+  pub after : List ℕ
+  pub split : drop offset bytes ≡ text ++ after
+  pub end : found.1 ≡ offset + length text
+  pub spells : Spells endian kind offset text found.0

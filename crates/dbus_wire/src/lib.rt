@@ -3,7 +3,9 @@
 
 mod basics;
 mod containers;
+mod copying;
 mod fields;
+mod laws;
 mod numbers;
 mod read;
 mod strings;
@@ -12,6 +14,7 @@ mod value;
 mod writing;
 
 pub use dbus_signature::{Signature, WireError, read_signature};
+pub use laws::{no_spelling_begins_another, written_is_read};
 pub use read::read_value;
 pub use value::{Endian, Value};
 pub use writing::write_value;

@@ -1,12 +1,11 @@
-use Rattle.std.proofs.lemmas.Result.{err_from_is_err_and}
-use Rattle.dbus_wire.proofs.ValueLaws.{value_fails, value_found}
+use Rattle.std.proofs.Common.{arith}
+use Rattle.dbus_wire.proofs.ReadLaws.{found_is_spelt, spelt_is_found}
 use Rattle.dbus_wire.proofs.read.read_value.Goals as goal
 
-pub returns-in_err-value : goal.returns-in_err-value
-returns-in_err-value c =
-    let p = err_from_is_err_and c.from_residual-in_err-value.result c.from_residual-in_err-value.ensures.1 in
-    rw (p.1, p.2) (record { exact = λ kind spells. value_fails c.in_err-value.field-0.0 c.args.endian c.args.signature.now c.in_ok-kind.kind kind c.args.offset _ c.args.bytes.now c.in_ok-kind.ensures spells c.split_at.ensures.back c.in_err-value.ensures })
+pub returns-clause-found : goal.returns-clause-found
+returns-clause-found c =
+    found_is_spelt c.value_of.result c.args.endian c.args.signature.now c.args.offset c.args.bytes.now (λ i. omega (arith, c.type_inv.bytes i)) c.value_of.ensures
 
-pub returns : goal.returns
-returns c =
-    record { exact = λ kind spells. value_found c.args.endian c.args.signature.now c.in_ok-kind.kind kind c.args.offset _ c.args.bytes.now c.in_ok-value.value c.in_ok-value.after.at c.in_ok-value.after.rest.now c.in_ok-kind.ensures spells c.split_at.ensures.back c.in_ok-value.ensures }
+pub returns-clause-only : goal.returns-clause-only
+returns-clause-only c =
+    λ kind found spells there. spelt_is_found c.value_of.result c.args.endian c.args.signature.now c.args.offset c.args.bytes.now c.value_of.ensures kind found spells there
