@@ -1,0 +1,4 @@
+pub mod Cursors
+pub mod Reading
+pub mod Types
+pub mod Signatures

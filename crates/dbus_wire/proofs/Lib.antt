@@ -1,0 +1,14 @@
+pub mod Again
+pub mod BasicAgain
+pub mod FieldLaws
+pub mod RoundTrip
+pub mod PatchLaws
+pub mod Some
+pub mod SpellingLaws
+pub mod StringLaws
+pub mod ValueAgain
+pub mod ValueLaws
+pub mod Took
+pub mod BasicTook
+pub mod ValueTook
+pub mod ReadLaws

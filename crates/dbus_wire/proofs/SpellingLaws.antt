@@ -1,0 +1,109 @@
+-- How each value is spelt, one level at a time.
+use Rattle.std.proofs.Common.{◌≡◌, ℕ, zero, suc, ◌+◌, ◌<◌, ◌≤◌, Bool, true, false, List, [], ◌∷◌, ◌++◌, length, get_or, take, drop, refl, sym, ap, ◌∙◌, append_assoc, arith}
+use Rattle.std.specs.Prelude.{map, ℤ}
+use Rattle.std.specs.Int.{w16, w32, w64, cast_unsigned}
+use Rattle.std.proofs.lemmas.List.{append-nil, length-append, take_more, take-append-drop}
+use Rattle.dbus_wire.specs.declared.value.Endian.{Endian}
+use Rattle.dbus_wire.specs.declared.value.Value.{Value}
+use Rattle.dbus_wire.specs.declared.value.Value.TheVariants as value
+use Rattle.dbus_wire.specs.declared.value.Value.TheVariants.{rolls-Byte, rolls-Bool, rolls-I16, rolls-U16, rolls-I32, rolls-U32, rolls-I64, rolls-U64, rolls-Double, rolls-Str, rolls-Path, rolls-Sig, rolls-Fd, rolls-Array, rolls-Struct, rolls-Pair, rolls-Variant}
+use Rattle.dbus_wire.specs.declared.value.Value.TheOpen.{Value-F}
+use Rattle.dbus_wire.specs.declared.value.Value.TheViews.{roll-Value}
+use Rattle.dbus_wire.specs.declared.value.Value.TheFolds.{fold-roll-Value}
+use Rattle.dbus_wire.specs.Spelling.{spelling, spellings, spelling_step, aligned, bit, text_spelling, signature_spelling, array_spelling, element_alignment, behind_padding, in_row}
+
+rolled : (e : Endian) (v : Value) (x : Value-F Value) (at : ℕ) → roll-Value x ≡ v → spelling e v at ≡ spelling e (roll-Value x) at
+rolled e v x at is = ap (λ (w : Value). spelling e w at) (sym is)
+
+pub spelt_byte : (e : Endian) (n at : ℕ) → spelling e (value.Byte n) at ≡ n ∷ []
+spelt_byte e n at = rolled e (value.Byte n) (Value-F.Byte n) at (rolls-Byte n) ∙ ap (λ (f : ℕ → List ℕ). f at) (fold-roll-Value (ℕ → List ℕ) (spelling_step e) (Value-F.Byte n))
+
+pub spelt_bool : (e : Endian) (b : Bool) (at : ℕ) → spelling e (value.Bool b) at ≡ aligned e w32 (bit b) at
+spelt_bool e b at = rolled e (value.Bool b) (Value-F.Bool b) at (rolls-Bool b) ∙ ap (λ (f : ℕ → List ℕ). f at) (fold-roll-Value (ℕ → List ℕ) (spelling_step e) (Value-F.Bool b))
+
+pub spelt_i16 : (e : Endian) (n : ℤ) (at : ℕ) → spelling e (value.I16 n) at ≡ aligned e w16 (cast_unsigned w16 n) at
+spelt_i16 e n at = rolled e (value.I16 n) (Value-F.I16 n) at (rolls-I16 n) ∙ ap (λ (f : ℕ → List ℕ). f at) (fold-roll-Value (ℕ → List ℕ) (spelling_step e) (Value-F.I16 n))
+
+pub spelt_u16 : (e : Endian) (n at : ℕ) → spelling e (value.U16 n) at ≡ aligned e w16 n at
+spelt_u16 e n at = rolled e (value.U16 n) (Value-F.U16 n) at (rolls-U16 n) ∙ ap (λ (f : ℕ → List ℕ). f at) (fold-roll-Value (ℕ → List ℕ) (spelling_step e) (Value-F.U16 n))
+
+pub spelt_i32 : (e : Endian) (n : ℤ) (at : ℕ) → spelling e (value.I32 n) at ≡ aligned e w32 (cast_unsigned w32 n) at
+spelt_i32 e n at = rolled e (value.I32 n) (Value-F.I32 n) at (rolls-I32 n) ∙ ap (λ (f : ℕ → List ℕ). f at) (fold-roll-Value (ℕ → List ℕ) (spelling_step e) (Value-F.I32 n))
+
+pub spelt_u32 : (e : Endian) (n at : ℕ) → spelling e (value.U32 n) at ≡ aligned e w32 n at
+spelt_u32 e n at = rolled e (value.U32 n) (Value-F.U32 n) at (rolls-U32 n) ∙ ap (λ (f : ℕ → List ℕ). f at) (fold-roll-Value (ℕ → List ℕ) (spelling_step e) (Value-F.U32 n))
+
+pub spelt_i64 : (e : Endian) (n : ℤ) (at : ℕ) → spelling e (value.I64 n) at ≡ aligned e w64 (cast_unsigned w64 n) at
+spelt_i64 e n at = rolled e (value.I64 n) (Value-F.I64 n) at (rolls-I64 n) ∙ ap (λ (f : ℕ → List ℕ). f at) (fold-roll-Value (ℕ → List ℕ) (spelling_step e) (Value-F.I64 n))
+
+pub spelt_u64 : (e : Endian) (n at : ℕ) → spelling e (value.U64 n) at ≡ aligned e w64 n at
+spelt_u64 e n at = rolled e (value.U64 n) (Value-F.U64 n) at (rolls-U64 n) ∙ ap (λ (f : ℕ → List ℕ). f at) (fold-roll-Value (ℕ → List ℕ) (spelling_step e) (Value-F.U64 n))
+
+pub spelt_double : (e : Endian) (n at : ℕ) → spelling e (value.Double n) at ≡ aligned e w64 n at
+spelt_double e n at = rolled e (value.Double n) (Value-F.Double n) at (rolls-Double n) ∙ ap (λ (f : ℕ → List ℕ). f at) (fold-roll-Value (ℕ → List ℕ) (spelling_step e) (Value-F.Double n))
+
+pub spelt_fd : (e : Endian) (n at : ℕ) → spelling e (value.Fd n) at ≡ aligned e w32 n at
+spelt_fd e n at = rolled e (value.Fd n) (Value-F.Fd n) at (rolls-Fd n) ∙ ap (λ (f : ℕ → List ℕ). f at) (fold-roll-Value (ℕ → List ℕ) (spelling_step e) (Value-F.Fd n))
+
+pub spelt_str : (e : Endian) (t : List ℕ) (at : ℕ) → spelling e (value.Str t) at ≡ text_spelling e t at
+spelt_str e t at = rolled e (value.Str t) (Value-F.Str t) at (rolls-Str t) ∙ ap (λ (f : ℕ → List ℕ). f at) (fold-roll-Value (ℕ → List ℕ) (spelling_step e) (Value-F.Str t))
+
+pub spelt_path : (e : Endian) (t : List ℕ) (at : ℕ) → spelling e (value.Path t) at ≡ text_spelling e t at
+spelt_path e t at = rolled e (value.Path t) (Value-F.Path t) at (rolls-Path t) ∙ ap (λ (f : ℕ → List ℕ). f at) (fold-roll-Value (ℕ → List ℕ) (spelling_step e) (Value-F.Path t))
+
+pub spelt_sig : (e : Endian) (s : List ℕ) (at : ℕ) → spelling e (value.Sig s) at ≡ signature_spelling s
+spelt_sig e s at = rolled e (value.Sig s) (Value-F.Sig s) at (rolls-Sig s) ∙ ap (λ (f : ℕ → List ℕ). f at) (fold-roll-Value (ℕ → List ℕ) (spelling_step e) (Value-F.Sig s))
+
+pub spelt_array : (e : Endian) (s : List ℕ) (vs : List Value) (at : ℕ) → spelling e (value.Array s vs) at ≡ array_spelling e (element_alignment s) (spellings e vs) at
+spelt_array e s vs at = rolled e (value.Array s vs) (Value-F.Array s vs) at (rolls-Array s vs) ∙ ap (λ (f : ℕ → List ℕ). f at) (fold-roll-Value (ℕ → List ℕ) (spelling_step e) (Value-F.Array s vs))
+
+pub spelt_struct : (e : Endian) (vs : List Value) (at : ℕ) → spelling e (value.Struct vs) at ≡ behind_padding 8 (spellings e vs) at
+spelt_struct e vs at = rolled e (value.Struct vs) (Value-F.Struct vs) at (rolls-Struct vs) ∙ ap (λ (f : ℕ → List ℕ). f at) (fold-roll-Value (ℕ → List ℕ) (spelling_step e) (Value-F.Struct vs))
+
+pub spelt_pair : (e : Endian) (k v : Value) (at : ℕ) → spelling e (value.Pair k v) at ≡ behind_padding 8 (spellings e (k ∷ v ∷ [])) at
+spelt_pair e k v at = rolled e (value.Pair k v) (Value-F.Pair k v) at (rolls-Pair k v) ∙ ap (λ (f : ℕ → List ℕ). f at) (fold-roll-Value (ℕ → List ℕ) (spelling_step e) (Value-F.Pair k v))
+
+pub spelt_variant : (e : Endian) (s : List ℕ) (v : Value) (at : ℕ) → spelling e (value.Variant s v) at ≡ signature_spelling s ++ spelling e v (at + length (signature_spelling s))
+spelt_variant e s v at = rolled e (value.Variant s v) (Value-F.Variant s v) at (rolls-Variant s v) ∙ ap (λ (f : ℕ → List ℕ). f at) (fold-roll-Value (ℕ → List ℕ) (spelling_step e) (Value-F.Variant s v))
+
+pub ruleset spelt = (spelt_byte, spelt_bool, spelt_i16, spelt_u16, spelt_i32, spelt_u32, spelt_i64, spelt_u64, spelt_double, spelt_fd, spelt_str, spelt_path, spelt_sig, spelt_array, spelt_struct, spelt_pair, spelt_variant)
+
+-- ---- rows
+
+pub spellings_append : (e : Endian) (xs ys : List Value) (at : ℕ) → spellings e (xs ++ ys) at ≡ spellings e xs at ++ spellings e ys (at + length (spellings e xs at))
+spellings_append e [] ys at = ap (spellings e ys) (let h : at ≡ at + 0 = omega arith in h)
+spellings_append e (x ∷ xs) ys at =
+    let first = spelling e x at in
+    let here = at + length first in
+    ap (λ (t : List ℕ). first ++ t) (spellings_append e xs ys here)
+        ∙ sym (append_assoc first (spellings e xs here) (spellings e ys (here + length (spellings e xs here))))
+        ∙ ap (λ (n : ℕ). (first ++ spellings e xs here) ++ spellings e ys n) (let h : here + length (spellings e xs here) ≡ at + length (first ++ spellings e xs here) = omega (arith, length-append first (spellings e xs here)) in h)
+
+-- one more value
+pub spellings_more : (e : Endian) (vs : List Value) (i at : ℕ) (v : Value) → i < length vs → v ≡ get_or vs i v
+    → spellings e (take (i + 1) vs) at ≡ spellings e (take i vs) at ++ spelling e v (at + length (spellings e (take i vs) at))
+spellings_more e vs i at v lt is =
+    ap (λ (xs : List Value). spellings e xs at) (take_more vs i v lt ∙ ap (λ (x : Value). take i vs ++ x ∷ []) (sym is))
+        ∙ spellings_append e (take i vs) (v ∷ []) at
+        ∙ ap (λ (t : List ℕ). spellings e (take i vs) at ++ t) (append-nil (spelling e v (at + length (spellings e (take i vs) at))))
+
+-- what a loop over values has written so far
+pub row_goes_on : (e : Endian) (vs : List Value) (i : ℕ) (v : Value) (base out new : List ℕ) → i < length vs → v ≡ get_or vs i v
+    → out ≡ base ++ spellings e (take i vs) (length base) → new ≡ out ++ spelling e v (length out) → new ≡ base ++ spellings e (take (i + 1) vs) (length base)
+row_goes_on e vs i v base out new lt is before after =
+    let row = spellings e (take i vs) (length base) in
+    let here : length out ≡ length base + length row = ap length before ∙ length-append base row in
+    after ∙ ap (λ (t : List ℕ). t ++ spelling e v (length out)) before
+        ∙ append_assoc base row (spelling e v (length out))
+        ∙ ap (λ (t : List ℕ). base ++ t) (ap (λ (n : ℕ). row ++ spelling e v n) here ∙ sym (spellings_more e vs i (length base) v lt is))
+
+-- one of several values is no longer than all of them
+pub item_short : (e : Endian) (vs : List Value) (i : ℕ) (v : Value) (base out : List ℕ) (bound : ℕ) → i < length vs → v ≡ get_or vs i v
+    → out ≡ base ++ spellings e (take i vs) (length base) → length (spellings e vs (length base)) < bound → length (spelling e v (length out)) < bound
+item_short e vs i v base out bound lt is before short =
+    let row = spellings e (take i vs) (length base) in
+    let here : length out ≡ length base + length row = ap length before ∙ length-append base row in
+    let more = spellings_more e vs i (length base) v lt is in
+    let split : spellings e vs (length base) ≡ spellings e (take (i + 1) vs) (length base) ++ spellings e (drop (i + 1) vs) (length base + length (spellings e (take (i + 1) vs) (length base)))
+            = ap (λ (xs : List Value). spellings e xs (length base)) (sym (take-append-drop (i + 1) vs)) ∙ spellings_append e (take (i + 1) vs) (drop (i + 1) vs) (length base) in
+    rw here (omega (arith, short, ap length split ∙ length-append (spellings e (take (i + 1) vs) (length base)) _, ap length more ∙ length-append row (spelling e v (length base + length row))))

@@ -1,0 +1,19 @@
+-- What arrays hold.
+use Rattle.std.specs.Prelude.{ℕ, Result}
+use Rattle.dbus_signature.specs.Reading.{Reader}
+use Rattle.dbus_signature.specs.Signatures.{IsKind}
+use Rattle.dbus_wire.specs.declared.value.Endian.{Endian}
+use Rattle.dbus_wire.specs.declared.value.Value.{Value}
+use Rattle.dbus_wire.specs.declared.containers.Element.{Element}
+use Rattle.dbus_wire.specs.declared.containers.Element.TheVariants as element
+use Rattle.dbus_wire.specs.Values.{value_at, entry_at}
+
+-- a value or an entry of an array
+abbrev pub element_at : Endian → ℕ → Element → Reader Value
+element_at endian room (element.Whole kind) = value_at endian room kind.now
+element_at endian room (element.Entry key kind) = entry_at endian room key kind.now
+
+-- its type keeps the limits
+abbrev pub ElementIs : Element → Type 0
+ElementIs (element.Whole kind) = IsKind kind.now
+ElementIs (element.Entry key kind) = IsKind kind.now

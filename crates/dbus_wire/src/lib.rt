@@ -1,0 +1,20 @@
+//! D-Bus values as bytes, in both byte orders: read and written exactly by the D-Bus Specification's marshalling.
+#![tactic(auto)]
+
+mod basics;
+mod containers;
+mod copying;
+mod fields;
+mod laws;
+mod numbers;
+mod read;
+mod strings;
+mod texts;
+mod value;
+mod writing;
+
+pub use dbus_signature::{Signature, WireError, read_signature};
+pub use laws::{no_spelling_begins_another, written_is_read};
+pub use read::read_value;
+pub use value::{Endian, Value};
+pub use writing::write_value;

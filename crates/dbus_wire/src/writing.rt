@@ -1,0 +1,125 @@
+//! Writes values.
+
+ghost use Rattle.std.specs.Prelude.{◌≡◌, ◌<◌, ◌^◌, ◌++◌, length, OnOk, OnErr};
+ghost use Rattle.dbus_wire.specs.Spelling.{array_spelling, element_alignment, letter_alignment, spelling, spellings};
+
+use crate::numbers::{push_padding, push_signature, push_text, push_u16, push_u32, push_u64, set_u32};
+use crate::value::{Endian, Value};
+use fw_base::Memory;
+
+/// What values begin at a multiple of, by the first letter of their type.
+fn letter_alignment(letter: u8) -> usize
+    ensures exact { result ≡ letter_alignment letter }
+    ensures some { 0 < result }
+{
+    match letter {
+        b'y' | b'g' | b'v' => 1,
+        b'n' | b'q' => 2,
+        b'x' | b't' | b'd' | b'(' | b'{' => 8,
+        _ => 4,
+    }
+}
+
+/// The alignment of the elements of an array, by its type.
+fn element_alignment(codes: &[u8]) -> usize
+    ensures exact { result ≡ element_alignment codes.now }
+    ensures some { 0 < result }
+{
+    match codes {
+        [_, letter, ..] => letter_alignment(*letter),
+        _ => 1,
+    }
+}
+
+/// Appends the spelling of a value at the offset where the bytes end.
+#[cycle(writing)]
+#[tactic(auto, using(crate::proofs::SpellingLaws::spelt))]
+fn push_value(out: &mut Vec<u8>, endian: Endian, value: &Value) -> Result<(), Memory>
+    requires { length (spelling endian value.now (length out.old.items)) < 2 ^ 32 }
+    ensures { OnOk result (out.new.items ≡ out.old.items ++ spelling endian value.now (length out.old.items)) }
+{
+    match value {
+        Value::Byte(byte) => {
+            out.push(*byte)?;
+            Ok(())
+        }
+        Value::Bool(truth) => push_u32(out, endian, if *truth { 1 } else { 0 }),
+        Value::I16(number) => push_u16(out, endian, number.cast_unsigned()),
+        Value::U16(number) => push_u16(out, endian, *number),
+        Value::I32(number) => push_u32(out, endian, number.cast_unsigned()),
+        Value::U32(number) => push_u32(out, endian, *number),
+        Value::Fd(number) => push_u32(out, endian, *number),
+        Value::I64(number) => push_u64(out, endian, number.cast_unsigned()),
+        Value::U64(number) => push_u64(out, endian, *number),
+        Value::Double(number) => push_u64(out, endian, *number),
+        Value::Str(text) => push_text(out, endian, text.as_str()),
+        Value::Path(text) => push_text(out, endian, text.as_str()),
+        Value::Sig(signature) => push_signature(out, signature.as_bytes()),
+        Value::Array(signature, items) => {
+            let align = element_alignment(signature.as_bytes());
+            push_array(out, endian, align, items.as_slice())
+        }
+        Value::Struct(members) => {
+            push_padding(out, 8)?;
+            push_all(out, endian, members.as_slice())
+        }
+        Value::Pair(key, inner) => {
+            push_padding(out, 8)?;
+            push_value(out, endian, key.get())?;
+            push_value(out, endian, inner.get())
+        }
+        Value::Variant(signature, inner) => {
+            push_signature(out, signature.as_bytes())?;
+            push_value(out, endian, inner.get())
+        }
+    }
+}
+
+/// Appends the spellings of values one after the other.
+#[cycle(writing)]
+fn push_all(out: &mut Vec<u8>, endian: Endian, values: &[Value]) -> Result<(), Memory>
+    requires { length (spellings endian values.now (length out.old.items)) < 2 ^ 32 }
+    ensures { OnOk result (out.new.items ≡ out.old.items ++ spellings endian values.now (length out.old.items)) }
+{
+    for value in values {
+        push_value(out, endian, value)?;
+    }
+    Ok(())
+}
+
+/// Appends an array of values that are aligned so: its length in bytes, padding, and the values.
+#[cycle(writing)]
+fn push_array(
+    out: &mut Vec<u8>,
+    endian: Endian,
+    align: usize,
+    values: &[Value],
+) -> Result<(), Memory>
+    requires some { 0 < align }
+    requires short { length (array_spelling endian align (spellings endian values.now) (length out.old.items)) < 2 ^ 32 }
+    ensures { OnOk result (out.new.items ≡ out.old.items ++ array_spelling endian align (spellings endian values.now) (length out.old.items)) }
+{
+    push_padding(out, 4)?;
+    let place = out.len();
+    out.extend_from_slice(&[0; 4])?;
+    push_padding(out, align)?;
+    let start = out.len();
+    push_all(out, endian, values)?;
+    let count = (out.len() - start) as u32;
+    set_u32(out, place, endian, count);
+    Ok(())
+}
+
+/// Appends a value's one spelling at the offset where the bytes end.
+///
+/// Needs less than 4 GiB of spelling; a message has less. For want of memory the bytes are as before.
+pub fn write_value(value: &Value, endian: Endian, out: &mut Vec<u8>) -> Result<(), Memory>
+    requires { length (spelling endian value.now (length out.old.items)) < 2 ^ 32 }
+    ensures ok { OnOk result (out.new.items ≡ out.old.items ++ spelling endian value.now (length out.old.items)) }
+    ensures err { OnErr result (out.new.items ≡ out.old.items) }
+{
+    let mut longer = out.clone()?;
+    push_value(&mut longer, endian, value)?;
+    *out = longer;
+    Ok(())
+}
