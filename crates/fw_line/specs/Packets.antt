@@ -1,5 +1,5 @@
 -- What follows the word `packet`: its fields as words, each a key, `=` and a value (this project's own spelling).
-use Rattle.std.specs.Prelude.{ℕ, Bool, ◌==◌, ◌&&◌, ◌||◌, if◌then◌else◌, codes, is_none, List, Option, None, Some}
+use Rattle.std.specs.Prelude.{ℕ, ◌&&◌, if◌then◌else◌, codes, is_none, List, Option, None, Some}
 use Rattle.fw_text.specs.Number.{number_to}
 use Rattle.fw_addr.specs.Addresses.{address}
 use Rattle.fw_addr.specs.Interfaces.{before_plus, is_interface}

@@ -1,5 +1,5 @@
 -- A text that was appended piece by piece.
-use Rattle.std.proofs.Common.{◌≡◌, ℕ, List, ◌++◌, ap, ◌∙◌, sym, append_assoc, refl}
+use Rattle.std.proofs.Common.{◌≡◌, ℕ, List, ◌++◌, ap, ◌∙◌, append_assoc}
 
 pub joined_two : (out a b o1 o2 : List ℕ) → o1 ≡ out ++ a → o2 ≡ o1 ++ b → o2 ≡ out ++ (a ++ b)
 joined_two out a b o1 o2 h1 h2 = h2 ∙ ap (λ o. o ++ b) h1 ∙ append_assoc out a b

@@ -1,11 +1,10 @@
 -- A run in its middle: what was written, and then what remains, is what remained at first.
-use Rattle.std.proofs.Common.{◌≡◌, ℕ, List, [], ◌∷◌, ◌++◌, Option, None, Some, IfSome, Result, Ok, Err, true, false, is_err, take, drop, refl, sym, ap, ◌∙◌, append_assoc, append-nil, subst}
+use Rattle.std.proofs.Common.{◌≡◌, ℕ, List, [], ◌++◌, Option, None, Some, IfSome, Result, Ok, Err, true, false, is_err, take, drop, refl, sym, ap, ◌∙◌, append_assoc, append-nil, subst}
 use Rattle.std.specs.Option.{option_map}
 use Rattle.std.proofs.lemmas.List.{take-append-drop}
 use Rattle.fw_base.specs.Streams.{Writes}
 use Rattle.fw_base.specs.declared.source.Failed.{Failed}
 use Rattle.fw_input.specs.Lines.{Judgement}
-use Rattle.fw_model.specs.declared.port.Port.{Port}
 use Rattle.fw_script.specs.declared.status.Status.{Status}
 use Rattle.fw_script.specs.declared.status.Status.TheVariants as status
 use Rattle.fw_script.specs.Running.{BeginsWith, Came, Flushed, RunsTo, Runner, Whole, remaining}

@@ -1,5 +1,5 @@
 -- The open ports, and the rules that are installed for them.
-use Rattle.std.specs.Prelude.{◌≡◌, List, Option, IfSome}
+use Rattle.std.specs.Prelude.{◌≡◌, List}
 use Rattle.fw_first.specs.Outcomes.{first_outcome}
 use Rattle.fw_model.specs.Packets.{IsFirstPacket}
 use Rattle.fw_first.specs.Rules.{first_ruleset}

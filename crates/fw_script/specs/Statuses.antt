@@ -1,6 +1,6 @@
 -- How a status is told outside: the number with which the process ends, and the words on standard error (this
 -- project's own).
-use Rattle.std.specs.Prelude.{ℕ, codes, decimal, List, [], ◌++◌}
+use Rattle.std.specs.Prelude.{ℕ, codes, decimal, List, ◌++◌}
 use Rattle.fw_script.specs.declared.status.Status.{Status}
 use Rattle.fw_script.specs.declared.status.Status.TheVariants as status
 

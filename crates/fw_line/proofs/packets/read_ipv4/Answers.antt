@@ -1,4 +1,4 @@
-use Rattle.std.proofs.Common.{◌≡◌, true, false, refl, sym, ◌∙◌}
+use Rattle.std.proofs.Common.{◌≡◌, true, false, refl, sym}
 use Rattle.fw_addr.specs.Addresses.{address}
 use Rattle.fw_model.specs.Packets.{is_v4}
 use Rattle.fw_line.proofs.Ends.{found_by, none_by}

@@ -1,4 +1,4 @@
-use Rattle.std.proofs.Common.{◌≡◌, ℕ, List, ◌++◌, ap, ◌∙◌}
+use Rattle.std.proofs.Common.{ℕ, List, ◌++◌, ap, ◌∙◌}
 use Rattle.fw_line.specs.Quoted.{quoted}
 use Rattle.fw_script.proofs.Joins.{joined_five}
 use Rattle.fw_script.proofs.texts.push_port_added.Goals as goal
