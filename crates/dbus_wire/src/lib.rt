@@ -18,3 +18,6 @@ pub use laws::{no_spelling_begins_another, written_is_read};
 pub use read::read_value;
 pub use value::{Endian, Value};
 pub use writing::write_value;
+
+#[cfg(test)]
+mod tests;
