@@ -1,9 +1,9 @@
 -- A value is found in bytes exactly where one is spelt there.
-use Rattle.std.proofs.Common.{◌≡◌, ℕ, ◌+◌, List, [], ◌∷◌, ◌++◌, length, drop, Result, Ok, Err, refl, sym, ap, subst, ◌∙◌, arith}
+use Rattle.std.proofs.Common.{◌≡◌, ℕ, List, drop, Result, Ok, Err, refl, subst}
 use Rattle.std.specs.Prelude.{IfOk}
 use Rattle.dbus_signature.specs.declared.kind.Kind.{Kind}
 use Rattle.dbus_signature.specs.declared.error.WireError.{WireError}
-use Rattle.dbus_signature.specs.Reading.{◌>>=◌, Gives}
+use Rattle.dbus_signature.specs.Reading.{Gives}
 use Rattle.dbus_signature.specs.Signatures.{SpellsType, IsKind}
 use Rattle.dbus_signature.proofs.Sound.{bind_ok, ok_is}
 use Rattle.dbus_wire.specs.declared.value.Endian.{Endian}
@@ -20,7 +20,7 @@ value_is_spelt e k offset bytes found is fits h =
     let b = bind_ok (value_at e max_open k offset (drop offset bytes)) (λ x. Ok (x.0, x.1)) found h in
     let t = value_took e max_open k is offset (drop offset bytes) b.0 (bytes_drop offset bytes fits) b.1 in
     subst (λ (f : Value × ℕ). SpeltThere e k offset bytes f) (ok_is (b.0.0, b.0.1) found b.2)
-        (record { text = spelling e b.0.0 offset; after = b.0.2; split = t.0.parts; end = t.0.moved; spells = record { fits = t.1; bytes_are = refl } })
+    (record { text = spelling e b.0.0 offset; after = b.0.2; split = t.0.parts; end = t.0.moved; spells = record { fits = t.1; bytes_are = refl } })
 
 kind_is : (codes : List ℕ) (k : Kind) → SpellsType codes k → IsKind k
 kind_is codes k s = subst (λ (t : List ℕ). SpellsType t k) s.spelt s

@@ -12,13 +12,11 @@ ghost use Rattle.dbus_wire.specs.Values.{max_open, value_of};
 pub fn written_is_read()
     ensures { (endian : Endian) (kind : Kind) (value : Value) (before after : List ℕ) → Fits endian max_open kind (length before) value
         → value_of endian kind (length before) (before ++ (spelling endian value (length before) ++ after)) ≡ Ok (value, length before + length (spelling endian value (length before))) }
-{
-}
+{}
 
 /// No spelling at an offset is a proper prefix of another of the same type and byte order, so that no bytes spell
 /// two values there.
 pub fn no_spelling_begins_another()
     ensures { (endian : Endian) (kind : Kind) (at : ℕ) (first second more : List ℕ) (v w : Value) → Spells endian kind at first v → Spells endian kind at second w
         → second ≡ first ++ more → (v ≡ w) × (more ≡ []) }
-{
-}
+{}
