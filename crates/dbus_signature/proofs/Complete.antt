@@ -1,20 +1,18 @@
 -- Each type that nests as deep as it may is read, whatever follows its spelling.
-use Rattle.std.proofs.Common.{◌≡◌, ℕ, zero, suc, ◌+◌, ◌-◌, ◌<◌, ◌≤◌, Bool, true, false, cond, eqb, List, [], ◌∷◌, ◌++◌, length, Option, Some, None, Result, Ok, Err, refl, sym, ap, subst, ◌∙◌, append_assoc, arith, inl, inr, ◌⊎◌}
-use Rattle.std.specs.Prelude.{map, ◌&&◌}
+use Rattle.std.proofs.Common.{◌≡◌, ℕ, zero, suc, ◌+◌, ◌-◌, ◌<◌, ◌≤◌, Bool, true, false, eqb, List, [], ◌∷◌, ◌++◌, length, None, Ok, refl, sym, ap, subst, ◌∙◌, append_assoc, arith}
 use Rattle.std.specs.List.{list_all}
-use Rattle.std.proofs.lemmas.Bool.{eqb-true, eqb-false, ne_eqb, and_parts, and_from}
+use Rattle.std.proofs.lemmas.Bool.{ne_eqb, and_parts}
 use Rattle.std.proofs.lemmas.List.{length-append}
-use Rattle.std.proofs.lemmas.List.Folds.{list_all-map}
 use Rattle.dbus_signature.specs.declared.kind.Basic.{Basic}
 use Rattle.dbus_signature.specs.declared.kind.Basic.TheVariants as basic
 use Rattle.dbus_signature.specs.declared.kind.Kind.{Kind}
 use Rattle.dbus_signature.specs.declared.kind.Kind.TheOpen.{Kind-F}
-use Rattle.dbus_signature.specs.declared.kind.Kind.TheVariants.{Basic as Plain, Variant, Array, Dict, Struct, rolls-Basic, rolls-Variant, rolls-Array, rolls-Dict, rolls-Struct}
+use Rattle.dbus_signature.specs.declared.kind.Kind.TheVariants.{Basic as Plain, Variant, Array, Dict, Struct, rolls-Struct}
 use Rattle.dbus_signature.specs.declared.kind.Kind.TheFolds.{fold-roll-Kind}
 use Rattle.dbus_signature.specs.Types.{code, codes, all_codes, nests, nests_step}
-use Rattle.dbus_signature.specs.Reading.{Read, Reader, ◌>>=◌}
-use Rattle.dbus_signature.specs.Signatures.{with_code, all_basics, basic_of, basic_found, basic_at, brace_at, dict_at, plain_array_at, array_at, closing, unless_closed, members_at, struct_at, letter_at, kind_by, kind_at, kinds_at, kinds_of, all_kinds, IsSignature, max_nesting, max_length}
-use Rattle.dbus_signature.proofs.Sound.{done, nests_array, nests_no_array, nests_dict, nests_no_dict, nests_plain, nests_variant, nests_struct, basic_again, bind_ok, ok_is, not_ok, chosen, Takes, kind_takes}
+use Rattle.dbus_signature.specs.Reading.{Read, Reader}
+use Rattle.dbus_signature.specs.Signatures.{dict_at, plain_array_at, array_at, closing, members_at, struct_at, letter_at, kind_by, kind_at}
+use Rattle.dbus_signature.proofs.Sound.{nests_array, nests_no_array, nests_dict, nests_no_dict, nests_struct, basic_again}
 use Rattle.dbus_signature.proofs.KindLaws.{codes_plain, codes_variant, codes_array, codes_dict, codes_struct, by_kind, kind_at_opens}
 
 -- Each type that nests as deep as it may is read, whatever follows.

@@ -1,14 +1,14 @@
 -- The types within a type keep the limits too.
-use Rattle.std.proofs.Common.{◌≡◌, ℕ, zero, suc, ◌+◌, ◌-◌, ◌<◌, ◌≤◌, Bool, true, false, List, [], ◌∷◌, ◌++◌, length, All, refl, sym, ap, ◌∙◌, arith}
+use Rattle.std.proofs.Common.{◌≡◌, ℕ, zero, suc, ◌+◌, ◌<◌, ◌≤◌, true, false, List, [], ◌∷◌, length, All, refl, sym, ap, ◌∙◌, arith}
 use Rattle.std.specs.List.{list_all, AllByRecursion}
 use Rattle.std.proofs.lemmas.Bool.{and_parts, and_from}
 use Rattle.std.proofs.lemmas.List.{length-append}
 use Rattle.std.proofs.lemmas.List.Elements.{All-from_recursion}
 use Rattle.dbus_signature.specs.declared.kind.Basic.{Basic}
 use Rattle.dbus_signature.specs.declared.kind.Kind.{Kind}
-use Rattle.dbus_signature.specs.declared.kind.Kind.TheVariants.{Basic as Plain, Variant, Array, Dict, Struct}
+use Rattle.dbus_signature.specs.declared.kind.Kind.TheVariants.{Array, Dict, Struct}
 use Rattle.dbus_signature.specs.Types.{codes, all_codes, nests}
-use Rattle.dbus_signature.specs.Signatures.{SpellsType, IsKind, max_nesting, max_length}
+use Rattle.dbus_signature.specs.Signatures.{IsKind, max_nesting, max_length}
 use Rattle.dbus_signature.proofs.KindLaws.{by_kind, codes_array, codes_dict, codes_struct}
 use Rattle.dbus_signature.proofs.Sound.{nests_array, nests_no_array, nests_dict, nests_no_dict, nests_plain, nests_variant, nests_struct}
 use Rattle.dbus_signature.proofs.Complete.{nests_empty, nests_no_struct}

@@ -1,16 +1,14 @@
 -- Types as their one level.
-use Rattle.std.proofs.Common.{◌≡◌, ℕ, zero, suc, ◌+◌, ◌-◌, ◌<◌, length, eqb, Ok, Err, Bool, true, false, cond, List, [], ◌∷◌, ◌++◌, refl, sym, ap, subst, ◌∙◌, take, get_or, append_assoc, arith}
+use Rattle.std.proofs.Common.{◌≡◌, ℕ, zero, suc, ◌+◌, ◌-◌, ◌<◌, length, eqb, Ok, Err, false, List, [], ◌∷◌, ◌++◌, refl, sym, ap, subst, ◌∙◌, take, get_or, append_assoc, arith}
 use Rattle.std.proofs.lemmas.Bool.{ne_eqb}
 use Rattle.std.proofs.lemmas.List.{append-nil, take_more}
-use Rattle.std.specs.Prelude.{map, ◌&&◌}
 use Rattle.dbus_signature.specs.declared.kind.Basic.{Basic}
 use Rattle.dbus_signature.specs.declared.kind.Kind.{Kind}
 use Rattle.dbus_signature.specs.declared.kind.Kind.TheOpen.{Kind-F}
 use Rattle.dbus_signature.specs.declared.kind.Kind.TheVariants.{Basic as Plain, Variant, Array, Dict, Struct, rolls-Basic, rolls-Variant, rolls-Array, rolls-Dict, rolls-Struct}
-use Rattle.dbus_signature.specs.declared.kind.Kind.TheViews.{out-Kind, roll-Kind, out-roll-Kind, roll-out-Kind}
+use Rattle.dbus_signature.specs.declared.kind.Kind.TheViews.{out-Kind, roll-Kind, roll-out-Kind}
 use Rattle.dbus_signature.specs.declared.kind.Kind.TheFolds.{fold-roll-Kind}
-use Rattle.dbus_signature.specs.Types.{code, codes, codes_step, all_codes, nests, nests_step}
-use Rattle.dbus_signature.specs.Reading.{Reader}
+use Rattle.dbus_signature.specs.Types.{code, codes, codes_step, all_codes}
 use Rattle.dbus_signature.specs.Signatures.{array_at, struct_at, kind_at, kind_by}
 
 pub codes_plain : (b : Basic) → codes (Plain b) ≡ code b ∷ []

@@ -1,11 +1,11 @@
 -- Reading one after the other, as a loop does.
-use Rattle.std.proofs.Common.{◌≡◌, ℕ, zero, suc, ◌+◌, ◌≤◌, ◌<◌, List, [], ◌∷◌, ◌++◌, length, Option, Some, None, Result, Ok, Err, refl, sym, ap, ◌∙◌, append_assoc, arith}
+use Rattle.std.proofs.Common.{◌≡◌, ℕ, zero, suc, ◌≤◌, ◌<◌, List, [], ◌∷◌, ◌++◌, length, Some, None, Result, Ok, Err, refl, sym, ap, ◌∙◌, append_assoc, arith}
 use Rattle.std.proofs.lemmas.List.{append-nil}
 use Rattle.dbus_signature.specs.declared.kind.Kind.{Kind}
 use Rattle.dbus_signature.specs.declared.error.WireError.{WireError}
 use Rattle.dbus_signature.specs.declared.error.WireError.TheVariants as errors
 use Rattle.dbus_signature.specs.Reading.{Read, Reader, ◌>>=◌, Fails}
-use Rattle.dbus_signature.specs.Signatures.{closing, unless_closed, members_at, kind_at, kinds_at, max_nesting}
+use Rattle.dbus_signature.specs.Signatures.{closing, members_at, kind_at, kinds_at, max_nesting}
 
 -- A loop goes on: for a number that bounds the bytes left, what it still reads gives all that it was to read.
 pub record GoesOn {A : Type 0} (still : ℕ → A) (all : A) (left first : ℕ) : Type 0 where

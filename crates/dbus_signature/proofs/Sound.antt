@@ -1,8 +1,8 @@
 -- What is read as a type is its spelling.
 use Rattle.std.proofs.Common.{◌≡◌, ℕ, zero, suc, ◌+◌, ◌-◌, ◌<◌, ◌≤◌, Bool, true, false, cond, eqb, List, [], ◌∷◌, ◌++◌, length, Option, Some, None, Result, Ok, Err, refl, sym, ap, subst, ◌∙◌, append_assoc, arith, inl, inr, ◌⊎◌}
-use Rattle.std.specs.Prelude.{map, ◌&&◌}
+use Rattle.std.specs.Prelude.{◌&&◌}
 use Rattle.std.specs.List.{list_all}
-use Rattle.std.proofs.lemmas.Bool.{eqb-true, eqb-false, ne_eqb, and_parts, and_from}
+use Rattle.std.proofs.lemmas.Bool.{eqb-true, ne_eqb, and_from}
 use Rattle.std.proofs.lemmas.List.{length-append}
 use Rattle.std.proofs.lemmas.List.Folds.{list_all-map}
 use Rattle.dbus_signature.specs.declared.kind.Basic.{Basic}
@@ -13,8 +13,8 @@ use Rattle.dbus_signature.specs.declared.kind.Kind.TheVariants.{Basic as Plain, 
 use Rattle.dbus_signature.specs.declared.kind.Kind.TheFolds.{fold-roll-Kind}
 use Rattle.dbus_signature.specs.Types.{code, codes, all_codes, nests, nests_step}
 use Rattle.dbus_signature.specs.Reading.{Read, Reader, ◌>>=◌}
-use Rattle.dbus_signature.specs.Signatures.{with_code, all_basics, basic_of, basic_found, basic_at, brace_at, dict_at, plain_array_at, array_at, closing, unless_closed, members_at, struct_at, letter_at, kind_by, kind_at, kinds_at, kinds_of, all_kinds, IsSignature, max_nesting, max_length}
-use Rattle.dbus_signature.proofs.KindLaws.{codes_plain, codes_variant, codes_array, codes_dict, codes_struct, by_kind, kind_at_opens}
+use Rattle.dbus_signature.specs.Signatures.{with_code, all_basics, basic_of, basic_found, basic_at, brace_at, dict_at, plain_array_at, array_at, closing, unless_closed, members_at, struct_at, letter_at, kind_by, kind_at}
+use Rattle.dbus_signature.proofs.KindLaws.{codes_plain, codes_variant, codes_array, codes_dict, codes_struct, kind_at_opens}
 
 -- ---- tools
 

@@ -1,13 +1,13 @@
 -- Whole signatures: a text is one exactly where it is read to its end.
-use Rattle.std.proofs.Common.{◌≡◌, ℕ, zero, suc, ◌+◌, ◌<◌, ◌≤◌, Bool, true, false, ltb, List, [], ◌∷◌, ◌++◌, length, take, Result, Ok, Err, refl, sym, ap, subst, ◌∙◌, arith, inl, inr}
+use Rattle.std.proofs.Common.{◌≡◌, ℕ, zero, suc, ◌+◌, ◌≤◌, Bool, true, false, ltb, eqb, ◌↔◌, List, [], ◌∷◌, ◌++◌, length, take, Result, Ok, Err, refl, sym, ap, subst, ◌∙◌, arith, inl, inr}
 use Rattle.std.specs.List.{list_all}
-use Rattle.std.proofs.lemmas.Bool.{ltb-false, le-ltb, and_parts, and_from}
-use Rattle.std.proofs.lemmas.List.{length-append, append-nil}
+use Rattle.std.proofs.lemmas.Bool.{ltb-false, le-ltb, and_parts, and_from, eqb-true, false≢true}
+use Rattle.std.proofs.lemmas.List.{append-nil, nil_from_length}
 use Rattle.dbus_signature.specs.declared.kind.Kind.{Kind}
 use Rattle.dbus_signature.specs.Types.{codes, all_codes, nests}
 use Rattle.dbus_signature.specs.Reading.{◌>>=◌}
 use Rattle.dbus_signature.specs.Signatures.{kind_at, kinds_at, kinds_of, all_kinds, signature_of, IsSignature, IsOneType, SpellsType, max_nesting, max_length}
-use Rattle.dbus_signature.proofs.Sound.{bind_ok, ok_is, not_ok, chosen, done, kind_takes}
+use Rattle.dbus_signature.proofs.Sound.{bind_ok, ok_is, not_ok, chosen, kind_takes}
 use Rattle.dbus_signature.proofs.Complete.{starts, count_le, kind_again}
 
 -- these types nest as deep as they may
@@ -92,3 +92,19 @@ pub one_kind : (text : List ℕ) (k l : Kind) → SpellsType text k → SpellsTy
 one_kind text k l s t =
     let same = ok_is (k, 0 + length (codes k), []) (l, 0 + length (codes l), []) (sym (one_type_again text k s) ∙ one_type_again text l t) in
     ap (λ (x : Kind × ℕ × List ℕ). x.0) same
+
+-- a text is read as one type to its end exactly where it spells one
+pub one_type_tells : (text : List ℕ) (kind : Kind) (next : ℕ) (rest : List ℕ) (b : Bool) → IsSignature text → kind_at max_nesting max_nesting 0 text ≡ Ok (kind, next, rest) → b ≡ eqb (length rest) 0 → (b ≡ true) ↔ IsOneType text
+one_type_tells text kind next rest b s e is =
+    let t = kind_takes 64 max_nesting max_nesting (omega arith) 0 text (kind, next, rest) e in (
+      (λ (holds : b ≡ true).
+          let none : rest ≡ [] = nil_from_length rest (eqb-true (length rest) 0 (sym is ∙ holds)) in
+          (kind, record { spelt = t.0.parts ∙ ap (λ (r : List ℕ). codes kind ++ r) none ∙ append-nil (codes kind); nested = t.1; short = s.short })),
+      (λ (one : IsOneType text).
+          let same = ok_is (one.0, 0 + length (codes one.0), []) (kind, next, rest) (sym (one_type_again text one.0 one.1) ∙ e) in
+          let none : [] ≡ rest = ap (λ (x : Kind × ℕ × List ℕ). x.2) same in
+          is ∙ ap (λ (r : List ℕ). eqb (length r) 0) (sym none)),
+    )
+
+pub no_type_tells : (text : List ℕ) (place : ℕ) → kind_at max_nesting max_nesting 0 text ≡ Err place → (false ≡ true) ↔ IsOneType text
+no_type_tells text place e = ((λ (wrong : false ≡ true). absurd (false≢true wrong)), (λ (one : IsOneType text). absurd (one_type_never_fails text place one e)))

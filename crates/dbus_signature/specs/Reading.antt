@@ -1,5 +1,5 @@
 -- Reading from left to right, with the place of the first fault.
-use Rattle.std.specs.Prelude.{◌≡◌, ℕ, ◌+◌, ◌==◌, List, [], ◌∷◌, Result, Ok, Err, if◌then◌else◌}
+use Rattle.std.specs.Prelude.{◌≡◌, ℕ, List, Result, Ok, Err}
 use Rattle.dbus_signature.specs.declared.error.WireError.{WireError}
 use Rattle.dbus_signature.specs.declared.error.WireError.TheVariants as errors
 

@@ -1,6 +1,6 @@
 //! Signatures, which are texts by which types are told.
 
-ghost use Rattle.std.specs.Prelude.{◌≡◌, ◌≤◌, ◌<◌, length, List, IfOk};
+ghost use Rattle.std.specs.Prelude.{◌≡◌, ◌≤◌, ◌<◌, length, List, IfOk, IsTrue, ◌↔◌};
 ghost use Rattle.dbus_signature.specs.Cursors.{read_at, seen};
 ghost use Rattle.dbus_signature.specs.Reading.{Gives};
 ghost use Rattle.dbus_signature.specs.Types.{codes};
@@ -70,6 +70,22 @@ impl Signature {
         let mut bytes = Vec::new(alloc);
         push_codes(&mut bytes, kind)?;
         Ok(Signature { bytes })
+    }
+
+    /// Whether it is a signature of one complete type.
+    pub fn is_one_type(&self, alloc: Global) -> Result<bool, Memory>
+        ensures { IfOk result (λ one. IsTrue one ↔ IsOneType self.now) }
+    {
+        let from = Cursor {
+            at: 0,
+            rest: self.as_bytes(),
+        };
+        let (_, after) = match one_kind_at(alloc, from) {
+            Ok(found) => found,
+            Err(WireError::Memory) => return Err(Memory),
+            Err(WireError::Bad(_)) => return Ok(false),
+        };
+        Ok(after.rest.is_empty())
     }
 
     /// The type of a signature of one complete type.

@@ -1,19 +1,19 @@
 -- Each field that is spelt is read, whatever follows it.
-use Rattle.std.proofs.Common.{◌≡◌, ℕ, zero, suc, ◌+◌, ◌-◌, ◌^◌, ◌<◌, ◌≤◌, Bool, true, false, cond, ltb, eqb, List, [], ◌∷◌, ◌++◌, length, take, drop, Result, Ok, Err, refl, sym, ap, subst, ◌∙◌, append_assoc, arith}
+use Rattle.std.proofs.Common.{◌≡◌, ℕ, zero, suc, ◌+◌, ◌^◌, ◌<◌, ◌≤◌, Bool, true, false, ltb, List, [], ◌∷◌, ◌++◌, length, Ok, refl, sym, ap, ◌∙◌, append_assoc, arith}
 use Rattle.std.specs.Prelude.{replicate}
 use Rattle.std.specs.Int.{Width, w16, w32, w64, byte_len}
 use Rattle.std.proofs.lemmas.Bool.{le-ltb}
 use Rattle.std.proofs.lemmas.List.{take_at, drop_at, append-nil, length-append, length-replicate}
 use Rattle.std.proofs.lemmas.Nat.{from_le_bytes-to_le_bytes_2, from_le_bytes-to_le_bytes_4, from_le_bytes-to_le_bytes_8, from_be_bytes-to_be_bytes_2, from_be_bytes-to_be_bytes_4, from_be_bytes-to_be_bytes_8}
 use Rattle.dbus_signature.specs.declared.kind.Kind.{Kind}
-use Rattle.dbus_signature.specs.Reading.{Read, Reader, ◌>>=◌}
-use Rattle.dbus_signature.specs.Types.{codes, all_codes}
+use Rattle.dbus_signature.specs.Reading.{Read}
+use Rattle.dbus_signature.specs.Types.{codes}
 use Rattle.dbus_signature.specs.Signatures.{kind_at, kinds_at, IsSignature, SpellsType}
 use Rattle.dbus_signature.proofs.Complete.{kind_again, count_le}
 use Rattle.dbus_signature.proofs.Whole.{kinds_again}
 use Rattle.dbus_wire.specs.declared.value.Endian.{Endian}
 use Rattle.dbus_wire.specs.declared.value.Endian.TheVariants.{Little, Big}
-use Rattle.dbus_wire.specs.Fields.{gap, zeros_at, padding_at, from_bytes, number_at, aligned_at, bool_of, bool_at, ended_at, text_at, byte_at, signature_at, one_type_of, type_at}
+use Rattle.dbus_wire.specs.Fields.{gap, zeros_at, padding_at, from_bytes, number_at, aligned_at, bool_of, bool_at, ended_at, text_at, byte_at, signature_at, type_at}
 use Rattle.dbus_wire.specs.Spelling.{padding, to_bytes, aligned, bit, text_spelling, signature_spelling}
 
 abbrev pub found : {A : Type 0} → A → ℕ → List ℕ → Read A
@@ -64,7 +64,7 @@ aligned_again e w limit wide n at rest lt =
     let pad = padding (byte_len w) at in
     let regrouped : (pad ++ to_bytes e w n) ++ rest ≡ pad ++ (to_bytes e w n ++ rest) = append_assoc pad (to_bytes e w n) rest in
     rw (regrouped, padding_again (byte_len w) at (to_bytes e w n ++ rest), number_again e w limit wide n (at + length pad) rest lt)
-        (moved_to n _ _ rest (omega (arith, length-append pad (to_bytes e w n), wide.len n)))
+    (moved_to n _ _ rest (omega (arith, length-append pad (to_bytes e w n), wide.len n)))
 
 bit_small : (b : Bool) → bit b < 2 ^ 32
 bit_small true = omega arith
@@ -81,7 +81,7 @@ bool_again e b at rest =
     let number = to_bytes e w32 (bit b) in
     let regrouped : (pad ++ number) ++ rest ≡ pad ++ (number ++ rest) = append_assoc pad number rest in
     rw (regrouped, padding_again 4 at (number ++ rest), number_again e w32 (2 ^ 32) (wide32 e) (bit b) (at + length pad) rest (bit_small b))
-        (bit_again b (at + length pad) (at + length pad + 4) rest ∙ moved_to b _ _ rest (omega (arith, length-append pad number, (wide32 e).len (bit b))))
+    (bit_again b (at + length pad) (at + length pad + 4) rest ∙ moved_to b _ _ rest (omega (arith, length-append pad number, (wide32 e).len (bit b))))
 
 -- ---- texts
 
@@ -98,7 +98,7 @@ text_again is_valid e text at rest valid short =
     let head = aligned e w32 (length text) at in
     let regrouped : (head ++ (text ++ 0 ∷ [])) ++ rest ≡ head ++ (text ++ (0 ∷ rest)) = append_assoc head (text ++ 0 ∷ []) rest ∙ ap (λ (t : List ℕ). head ++ t) (append_assoc text (0 ∷ []) rest) in
     rw (regrouped, aligned_again e w32 (2 ^ 32) (wide32 e) (length text) at (text ++ (0 ∷ rest)) short, ended_again is_valid text (at + length head) rest valid)
-        (moved_to text _ _ rest (omega (arith, length-append head (text ++ 0 ∷ []), length-append text (0 ∷ []))))
+    (moved_to text _ _ rest (omega (arith, length-append head (text ++ 0 ∷ []), length-append text (0 ∷ []))))
 
 -- ---- signatures
 
@@ -112,7 +112,7 @@ unfolding signature_at byte_at
 signature_again codes at rest s =
     let regrouped : (codes ++ 0 ∷ []) ++ rest ≡ codes ++ (0 ∷ rest) = append_assoc codes (0 ∷ []) rest in
     rw (regrouped, take_at codes (0 ∷ rest) (length codes) refl, drop_at codes (0 ∷ rest) (length codes) refl, codes_again codes s (at + 1), nul_again (at + 1 + length codes) rest)
-        (moved_to codes _ _ rest (omega (arith, length-append codes (0 ∷ []))))
+    (moved_to codes _ _ rest (omega (arith, length-append codes (0 ∷ []))))
 
 pub type_again : (text : List ℕ) (kind : Kind) (at : ℕ) (rest : List ℕ) → SpellsType text kind → type_at at (signature_spelling text ++ rest) ≡ found (kind, text) (at + length (signature_spelling text)) rest
 unfolding type_at byte_at
@@ -120,4 +120,4 @@ type_again text kind at rest s =
     let regrouped : (text ++ 0 ∷ []) ++ rest ≡ text ++ (0 ∷ rest) = append_assoc text (0 ∷ []) rest in
     let one : kind_at 32 32 (at + 1) text ≡ Ok (kind, at + 1 + length (codes kind), []) = ap (kind_at 32 32 (at + 1)) (s.spelt ∙ sym (append-nil (codes kind))) ∙ kind_again 64 32 32 (omega arith) kind (at + 1) [] s.nested in
     rw (regrouped, take_at text (0 ∷ rest) (length text) refl, drop_at text (0 ∷ rest) (length text) refl, one, nul_again (at + 1 + length text) rest)
-        (moved_to (kind, text) _ _ rest (omega (arith, length-append text (0 ∷ []))))
+    (moved_to (kind, text) _ _ rest (omega (arith, length-append text (0 ∷ []))))

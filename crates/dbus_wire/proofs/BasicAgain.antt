@@ -1,11 +1,11 @@
 -- Each value that holds no others is read as it is spelt, whatever follows it.
-use Rattle.std.proofs.Common.{◌≡◌, ℕ, suc, ◌+◌, ◌^◌, ◌<◌, Bool, List, [], ◌∷◌, ◌++◌, length, Result, Ok, Err, refl, sym, ap, ◌∙◌, arith}
+use Rattle.std.proofs.Common.{◌≡◌, ℕ, ◌+◌, ◌^◌, ◌<◌, Bool, List, ◌∷◌, ◌++◌, length, refl, ap, ◌∙◌}
 use Rattle.std.specs.Prelude.{ℤ}
 use Rattle.std.specs.Int.{Width, w16, w32, w64, cast_signed, cast_unsigned}
 use Rattle.std.proofs.lemmas.Int.{of_z-to_z}
 use Rattle.dbus_signature.specs.declared.kind.Basic.{Basic}
 use Rattle.dbus_signature.specs.declared.kind.Basic.TheVariants as basic
-use Rattle.dbus_signature.specs.Reading.{Read, Reader, ◌>>=◌}
+use Rattle.dbus_signature.specs.Reading.{Reader}
 use Rattle.dbus_wire.specs.declared.value.Endian.{Endian}
 use Rattle.dbus_wire.specs.declared.value.Value.{Value}
 use Rattle.dbus_wire.specs.declared.value.Value.TheVariants as value
@@ -13,9 +13,9 @@ use Rattle.dbus_wire.specs.declared.strings.StringKind.TheVariants as string
 use Rattle.dbus_wire.specs.Texts.{is_string}
 use Rattle.dbus_wire.specs.Fields.{aligned_at, byte_at, text_at}
 use Rattle.dbus_wire.specs.Values.{as_value, basic_value_at}
-use Rattle.dbus_wire.specs.Spelling.{spelling, aligned, text_spelling, signature_spelling}
+use Rattle.dbus_wire.specs.Spelling.{spelling, aligned, text_spelling}
 use Rattle.dbus_wire.specs.Fits.{IsBasic, IsNumber, IsString}
-use Rattle.dbus_wire.proofs.Again.{found, moved_to, IsWide, wide16, wide32, wide64, aligned_again, bool_again, text_again, signature_again}
+use Rattle.dbus_wire.proofs.Again.{found, IsWide, wide16, wide32, wide64, aligned_again, bool_again, text_again, signature_again}
 use Rattle.dbus_wire.proofs.SpellingLaws.{spelt_byte, spelt_bool, spelt_i16, spelt_u16, spelt_i32, spelt_u32, spelt_i64, spelt_u64, spelt_double, spelt_fd, spelt_str, spelt_path, spelt_sig}
 
 -- A reader reads a value as it is spelt at an offset, whatever follows.

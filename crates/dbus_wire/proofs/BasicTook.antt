@@ -1,12 +1,11 @@
 -- What is read of a value that holds no others is its spelling.
-use Rattle.std.proofs.Common.{◌≡◌, ℕ, ◌+◌, ◌^◌, ◌<◌, Bool, true, List, [], ◌∷◌, ◌++◌, length, Result, Ok, Err, refl, sym, ap, subst, ◌∙◌, arith}
+use Rattle.std.proofs.Common.{◌≡◌, ℕ, ◌^◌, ◌<◌, Bool, List, Ok, refl, ap, subst, ◌∙◌}
 use Rattle.std.specs.Prelude.{ℤ}
 use Rattle.std.specs.Int.{Width, w16, w32, w64, cast_signed, cast_unsigned}
 use Rattle.std.proofs.lemmas.Int.{of_z-to_z}
 use Rattle.dbus_signature.specs.declared.kind.Basic.{Basic}
 use Rattle.dbus_signature.specs.declared.kind.Basic.TheVariants as basic
-use Rattle.dbus_signature.specs.Reading.{Read, Reader, ◌>>=◌}
-use Rattle.dbus_signature.specs.Signatures.{IsSignature}
+use Rattle.dbus_signature.specs.Reading.{Read}
 use Rattle.dbus_signature.proofs.Sound.{bind_ok, ok_is, Takes}
 use Rattle.dbus_wire.specs.declared.value.Endian.{Endian}
 use Rattle.dbus_wire.specs.declared.value.Value.{Value}
@@ -15,7 +14,7 @@ use Rattle.dbus_wire.specs.declared.strings.StringKind.TheVariants as string
 use Rattle.dbus_wire.specs.Texts.{is_string}
 use Rattle.dbus_wire.specs.Fields.{aligned_at, bool_at, byte_at, text_at, signature_at}
 use Rattle.dbus_wire.specs.Values.{as_value, basic_value_at}
-use Rattle.dbus_wire.specs.Spelling.{spelling, aligned, bit, text_spelling, signature_spelling}
+use Rattle.dbus_wire.specs.Spelling.{spelling, aligned, text_spelling}
 use Rattle.dbus_wire.specs.Fits.{Said, IsBasic, IsNumber, IsString}
 use Rattle.dbus_wire.proofs.Took.{IsBytes, IsExact, exact16, exact32, exact64, aligned_takes, bool_takes, text_takes, signature_takes, byte_reads}
 use Rattle.dbus_wire.proofs.SpellingLaws.{spelt_byte, spelt_bool, spelt_i16, spelt_u16, spelt_i32, spelt_u32, spelt_i64, spelt_u64, spelt_double, spelt_fd, spelt_str, spelt_path, spelt_sig}
@@ -35,15 +34,15 @@ number_took : (make : ℕ → Value) (w : Width) (limit : ℕ) (e : Endian) → 
     → (at : ℕ) (text : List ℕ) (x : Value × ℕ × List ℕ) → IsBytes text → as_value make (aligned_at e w at text) ≡ Ok x → Took e (λ at v. IsNumber make limit v) at text x
 number_took make w limit e exact spelt at text x fits h =
     took_made make e (λ at v. IsNumber make limit v) at text (aligned_at e w at text) x h (λ y is.
-        let t = aligned_takes e w limit exact at text y fits is in
-        (rw (spelt y.0 at t.1) t.0, (y.0, refl, t.1)))
+    let t = aligned_takes e w limit exact at text y fits is in
+    (rw (spelt y.0 at t.1) t.0, (y.0, refl, t.1)))
 
 string_took : (make : List ℕ → Value) (is_valid : List ℕ → Bool) (e : Endian) → ((s : List ℕ) (at : ℕ) → spelling e (make s) at ≡ text_spelling e s at)
     → (at : ℕ) (text : List ℕ) (x : Value × ℕ × List ℕ) → IsBytes text → as_value make (text_at is_valid e at text) ≡ Ok x → Took e (λ at v. IsString make is_valid v) at text x
 string_took make is_valid e spelt at text x fits h =
     took_made make e (λ at v. IsString make is_valid v) at text (text_at is_valid e at text) x h (λ y is.
-        let t = text_takes is_valid e at text y fits is in
-        (rw (spelt y.0 at) t.0, (y.0, refl, t.1, t.2)))
+    let t = text_takes is_valid e at text y fits is in
+    (rw (spelt y.0 at) t.0, (y.0, refl, t.1, t.2)))
 
 signed_spelt : (make : ℤ → Value) (w : Width) (limit : ℕ) (e : Endian) → ((n : ℤ) (at : ℕ) → spelling e (make n) at ≡ aligned e w (cast_unsigned w n) at) → ((n : ℕ) → n < limit → cast_unsigned w (cast_signed w n) ≡ n)
     → (n at : ℕ) → n < limit → spelling e (make (cast_signed w n)) at ≡ aligned e w n at

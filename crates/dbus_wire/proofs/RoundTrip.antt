@@ -1,8 +1,8 @@
 -- The laws of spelling and reading.
-use Rattle.std.proofs.Common.{◌≡◌, ℕ, ◌+◌, List, [], ◌∷◌, ◌++◌, length, drop, Result, Ok, Err, refl, sym, ap, ◌∙◌, arith}
+use Rattle.std.proofs.Common.{◌≡◌, ℕ, ◌+◌, List, [], ◌++◌, length, drop, Ok, refl, sym, ap, ◌∙◌}
 use Rattle.std.proofs.lemmas.List.{append-nil, drop_at}
 use Rattle.dbus_signature.specs.declared.kind.Kind.{Kind}
-use Rattle.dbus_signature.specs.Reading.{Read, ◌>>=◌}
+use Rattle.dbus_signature.specs.Reading.{Read}
 use Rattle.dbus_signature.proofs.Sound.{ok_is}
 use Rattle.dbus_wire.specs.declared.value.Endian.{Endian}
 use Rattle.dbus_wire.specs.declared.value.Value.{Value}
@@ -35,4 +35,4 @@ pub written_again : (e : Endian) (k : Kind) (v : Value) (before after : List ℕ
     → value_of e k (length before) (before ++ (spelling e v (length before) ++ after)) ≡ Ok (v, length before + length (spelling e v (length before)))
 written_again e k v before after fits =
     spelt_is_read e k (length before) (before ++ (spelling e v (length before) ++ after)) (spelling e v (length before)) after v (record { fits = fits; bytes_are = refl })
-        (drop_at before (spelling e v (length before) ++ after) (length before) refl)
+    (drop_at before (spelling e v (length before) ++ after) (length before) refl)

@@ -1,6 +1,6 @@
 -- No spelling is empty, and how the one level of a type is opened.
-use Rattle.std.proofs.Common.{◌≡◌, ℕ, zero, suc, ◌+◌, ◌^◌, ◌<◌, ◌≤◌, List, [], ◌∷◌, ◌++◌, length, refl, sym, ap, subst, ◌∙◌, arith}
-use Rattle.std.specs.Int.{Width, w16, w32, w64, byte_len, cast_unsigned, cast_signed}
+use Rattle.std.proofs.Common.{◌≡◌, ℕ, ◌^◌, ◌<◌, List, [], ◌∷◌, ◌++◌, length, refl, sym, ap, ◌∙◌, arith}
+use Rattle.std.specs.Int.{Width, w16, w32, w64, byte_len, cast_signed}
 use Rattle.std.proofs.lemmas.List.{length-append}
 use Rattle.dbus_signature.specs.declared.kind.Basic.{Basic}
 use Rattle.dbus_signature.specs.declared.kind.Basic.TheVariants as basic
@@ -13,7 +13,7 @@ use Rattle.dbus_signature.proofs.KindLaws.{by_kind, codes_plain, codes_variant, 
 use Rattle.dbus_wire.specs.declared.value.Endian.{Endian}
 use Rattle.dbus_wire.specs.declared.value.Value.{Value}
 use Rattle.dbus_wire.specs.Values.{alignment, basic_alignment}
-use Rattle.dbus_wire.specs.Spelling.{spelling, spellings, padding, aligned, to_bytes, bit, text_spelling, element_alignment, letter_alignment}
+use Rattle.dbus_wire.specs.Spelling.{spelling, padding, aligned, to_bytes, bit, text_spelling, element_alignment, letter_alignment}
 use Rattle.dbus_wire.specs.Fits.{IsBasic}
 use Rattle.dbus_wire.proofs.Again.{IsWide, wide16, wide32, wide64}
 use Rattle.dbus_wire.proofs.SpellingLaws.{spelt_byte, spelt_bool, spelt_i16, spelt_u16, spelt_i32, spelt_u32, spelt_i64, spelt_u64, spelt_double, spelt_fd, spelt_str, spelt_path, spelt_sig}

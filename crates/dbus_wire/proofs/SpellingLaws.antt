@@ -1,6 +1,6 @@
 -- How each value is spelt, one level at a time.
-use Rattle.std.proofs.Common.{◌≡◌, ℕ, zero, suc, ◌+◌, ◌<◌, ◌≤◌, Bool, true, false, List, [], ◌∷◌, ◌++◌, length, get_or, take, drop, refl, sym, ap, ◌∙◌, append_assoc, arith}
-use Rattle.std.specs.Prelude.{map, ℤ}
+use Rattle.std.proofs.Common.{◌≡◌, ℕ, ◌+◌, ◌<◌, Bool, List, [], ◌∷◌, ◌++◌, length, get_or, take, drop, sym, ap, ◌∙◌, append_assoc, arith}
+use Rattle.std.specs.Prelude.{ℤ}
 use Rattle.std.specs.Int.{w16, w32, w64, cast_unsigned}
 use Rattle.std.proofs.lemmas.List.{append-nil, length-append, take_more, take-append-drop}
 use Rattle.dbus_wire.specs.declared.value.Endian.{Endian}
@@ -10,7 +10,7 @@ use Rattle.dbus_wire.specs.declared.value.Value.TheVariants.{rolls-Byte, rolls-B
 use Rattle.dbus_wire.specs.declared.value.Value.TheOpen.{Value-F}
 use Rattle.dbus_wire.specs.declared.value.Value.TheViews.{roll-Value}
 use Rattle.dbus_wire.specs.declared.value.Value.TheFolds.{fold-roll-Value}
-use Rattle.dbus_wire.specs.Spelling.{spelling, spellings, spelling_step, aligned, bit, text_spelling, signature_spelling, array_spelling, element_alignment, behind_padding, in_row}
+use Rattle.dbus_wire.specs.Spelling.{spelling, spellings, spelling_step, aligned, bit, text_spelling, signature_spelling, array_spelling, element_alignment, behind_padding}
 
 rolled : (e : Endian) (v : Value) (x : Value-F Value) (at : ℕ) → roll-Value x ≡ v → spelling e v at ≡ spelling e (roll-Value x) at
 rolled e v x at is = ap (λ (w : Value). spelling e w at) (sym is)
@@ -76,16 +76,16 @@ spellings_append e (x ∷ xs) ys at =
     let first = spelling e x at in
     let here = at + length first in
     ap (λ (t : List ℕ). first ++ t) (spellings_append e xs ys here)
-        ∙ sym (append_assoc first (spellings e xs here) (spellings e ys (here + length (spellings e xs here))))
-        ∙ ap (λ (n : ℕ). (first ++ spellings e xs here) ++ spellings e ys n) (let h : here + length (spellings e xs here) ≡ at + length (first ++ spellings e xs here) = omega (arith, length-append first (spellings e xs here)) in h)
+    ∙ sym (append_assoc first (spellings e xs here) (spellings e ys (here + length (spellings e xs here))))
+    ∙ ap (λ (n : ℕ). (first ++ spellings e xs here) ++ spellings e ys n) (let h : here + length (spellings e xs here) ≡ at + length (first ++ spellings e xs here) = omega (arith, length-append first (spellings e xs here)) in h)
 
 -- one more value
 pub spellings_more : (e : Endian) (vs : List Value) (i at : ℕ) (v : Value) → i < length vs → v ≡ get_or vs i v
     → spellings e (take (i + 1) vs) at ≡ spellings e (take i vs) at ++ spelling e v (at + length (spellings e (take i vs) at))
 spellings_more e vs i at v lt is =
     ap (λ (xs : List Value). spellings e xs at) (take_more vs i v lt ∙ ap (λ (x : Value). take i vs ++ x ∷ []) (sym is))
-        ∙ spellings_append e (take i vs) (v ∷ []) at
-        ∙ ap (λ (t : List ℕ). spellings e (take i vs) at ++ t) (append-nil (spelling e v (at + length (spellings e (take i vs) at))))
+    ∙ spellings_append e (take i vs) (v ∷ []) at
+    ∙ ap (λ (t : List ℕ). spellings e (take i vs) at ++ t) (append-nil (spelling e v (at + length (spellings e (take i vs) at))))
 
 -- what a loop over values has written so far
 pub row_goes_on : (e : Endian) (vs : List Value) (i : ℕ) (v : Value) (base out new : List ℕ) → i < length vs → v ≡ get_or vs i v
@@ -94,8 +94,8 @@ row_goes_on e vs i v base out new lt is before after =
     let row = spellings e (take i vs) (length base) in
     let here : length out ≡ length base + length row = ap length before ∙ length-append base row in
     after ∙ ap (λ (t : List ℕ). t ++ spelling e v (length out)) before
-        ∙ append_assoc base row (spelling e v (length out))
-        ∙ ap (λ (t : List ℕ). base ++ t) (ap (λ (n : ℕ). row ++ spelling e v n) here ∙ sym (spellings_more e vs i (length base) v lt is))
+    ∙ append_assoc base row (spelling e v (length out))
+    ∙ ap (λ (t : List ℕ). base ++ t) (ap (λ (n : ℕ). row ++ spelling e v n) here ∙ sym (spellings_more e vs i (length base) v lt is))
 
 -- one of several values is no longer than all of them
 pub item_short : (e : Endian) (vs : List Value) (i : ℕ) (v : Value) (base out : List ℕ) (bound : ℕ) → i < length vs → v ≡ get_or vs i v
@@ -105,5 +105,5 @@ item_short e vs i v base out bound lt is before short =
     let here : length out ≡ length base + length row = ap length before ∙ length-append base row in
     let more = spellings_more e vs i (length base) v lt is in
     let split : spellings e vs (length base) ≡ spellings e (take (i + 1) vs) (length base) ++ spellings e (drop (i + 1) vs) (length base + length (spellings e (take (i + 1) vs) (length base)))
-            = ap (λ (xs : List Value). spellings e xs (length base)) (sym (take-append-drop (i + 1) vs)) ∙ spellings_append e (take (i + 1) vs) (drop (i + 1) vs) (length base) in
+    = ap (λ (xs : List Value). spellings e xs (length base)) (sym (take-append-drop (i + 1) vs)) ∙ spellings_append e (take (i + 1) vs) (drop (i + 1) vs) (length base) in
     rw here (omega (arith, short, ap length split ∙ length-append (spellings e (take (i + 1) vs) (length base)) _, ap length more ∙ length-append row (spelling e v (length base + length row))))

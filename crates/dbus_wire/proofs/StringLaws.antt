@@ -1,9 +1,8 @@
 -- What is read as a signature is one.
-use Rattle.std.proofs.Common.{◌≡◌, ℕ, ◌+◌, ◌≤◌, ◌<◌, List, [], ◌∷◌, ◌++◌, length, take, Ok, refl, sym, ap, subst, ◌∙◌, arith}
-use Rattle.std.proofs.lemmas.Bool.{and_from}
-use Rattle.std.proofs.lemmas.List.{append-nil, nil_from_length, length-take}
+use Rattle.std.proofs.Common.{◌≡◌, ℕ, ◌≤◌, List, ◌++◌, length, Ok, ap, subst, ◌∙◌, arith}
+use Rattle.std.proofs.lemmas.List.{append-nil, nil_from_length}
 use Rattle.dbus_signature.specs.declared.kind.Kind.{Kind}
-use Rattle.dbus_signature.specs.Types.{codes, all_codes, nests}
+use Rattle.dbus_signature.specs.Types.{codes}
 use Rattle.dbus_signature.specs.Signatures.{kind_at, kinds_at, IsSignature, SpellsType, IsKind}
 use Rattle.dbus_signature.proofs.Sound.{kind_takes}
 use Rattle.dbus_signature.proofs.Whole.{kinds_take, type_is_signature}

@@ -1,17 +1,15 @@
 -- What is read of a field is its spelling.
-use Rattle.std.proofs.Common.{◌≡◌, ℕ, zero, suc, ◌+◌, ◌-◌, ◌^◌, ◌<◌, ◌≤◌, Bool, true, false, cond, ltb, eqb, List, [], ◌∷◌, ◌++◌, length, get_or, take, drop, Result, Ok, Err, refl, sym, ap, subst, ◌∙◌, append_assoc, arith, inl, inr}
-use Rattle.std.specs.Prelude.{replicate, ℤ}
-use Rattle.std.specs.Int.{Width, w16, w32, w64, byte_len, cast_signed}
+use Rattle.std.proofs.Common.{◌≡◌, ℕ, zero, suc, ◌+◌, ◌^◌, ◌<◌, ◌≤◌, Bool, true, false, cond, ltb, eqb, List, [], ◌∷◌, ◌++◌, length, get_or, take, drop, Ok, Err, refl, sym, ap, subst, ◌∙◌, arith, inl, inr}
+use Rattle.std.specs.Prelude.{replicate}
+use Rattle.std.specs.Int.{Width, w16, w32, w64, byte_len}
 use Rattle.std.proofs.lemmas.Bool.{ltb-false, eqb-true}
-use Rattle.std.proofs.lemmas.Int.{of_z-to_z}
-use Rattle.std.proofs.lemmas.List.{take-append-drop, length-append, length-take, length-drop, get_or-drop, get_or-take, get_or_past, append-nil, nil_from_length, drop_at}
+use Rattle.std.proofs.lemmas.List.{take-append-drop, length-take, length-drop, get_or-drop, get_or-take, get_or_past, drop_at}
 use Rattle.std.proofs.lemmas.Bool.{cases_lt}
 use Rattle.std.proofs.lemmas.Nat.{le_bytes_2, le_bytes_4, le_bytes_8, be_bytes_2, be_bytes_4, be_bytes_8}
 use Rattle.dbus_signature.specs.declared.kind.Kind.{Kind}
-use Rattle.dbus_signature.specs.Reading.{Read, Reader, ◌>>=◌}
-use Rattle.dbus_signature.specs.Types.{codes}
+use Rattle.dbus_signature.specs.Reading.{◌>>=◌}
 use Rattle.dbus_signature.specs.Signatures.{kind_at, kinds_at, IsSignature, SpellsType}
-use Rattle.dbus_signature.proofs.Sound.{bind_ok, ok_is, not_ok, chosen, done, Takes, Takes-then}
+use Rattle.dbus_signature.proofs.Sound.{bind_ok, ok_is, not_ok, chosen, Takes, Takes-then}
 use Rattle.dbus_wire.specs.declared.value.Endian.{Endian}
 use Rattle.dbus_wire.specs.declared.value.Endian.TheVariants.{Little, Big}
 use Rattle.dbus_wire.specs.Fields.{gap, zeros_at, padding_at, from_bytes, number_at, aligned_at, bool_of, bool_at, ended_at, text_at, byte_at, signature_at, one_type_of, type_at}
@@ -43,8 +41,8 @@ zeros_take (suc n) at [] x e = absurd (not_ok at x e)
 zeros_take (suc n) at (c ∷ rest) x e =
     elim (chosen (eqb c 0) (zeros_at n (at + 1) rest) (Err at) (Ok x) e) [
       | inl p ↦
-        let t = zeros_take n (at + 1) rest x p.1 in
-        record { parts = ap (λ (l : ℕ). l ∷ rest) (eqb-true c 0 p.0) ∙ ap (λ (l : List ℕ). 0 ∷ l) t.parts; moved = omega (arith, t.moved) }
+          let t = zeros_take n (at + 1) rest x p.1 in
+          record { parts = ap (λ (l : ℕ). l ∷ rest) (eqb-true c 0 p.0) ∙ ap (λ (l : List ℕ). 0 ∷ l) t.parts; moved = omega (arith, t.moved) }
       | inr p ↦ absurd (not_ok at x p.1)
     ]
 
@@ -79,13 +77,13 @@ number_takes e w limit exact at text x fits h =
     elim (chosen (ltb (length text) (byte_len w)) (Err at) (Ok (from_bytes e w (take (byte_len w) text), at + byte_len w, drop (byte_len w) text)) (Ok x) h) [
       | inl p ↦ absurd (not_ok at x p.1)
       | inr p ↦
-        let front = take (byte_len w) text in
-        let long : byte_len w ≤ length text = ltb-false _ _ p.0 in
-        let len : length front ≡ byte_len w = omega (arith, length-take (byte_len w) text) in
-        let small = bytes_take (byte_len w) text fits in
-        let back = exact.back front len small in
-        subst (λ (y : ℕ × ℕ × List ℕ). Takes at text (to_bytes e w y.0) y.1 y.2 × (y.0 < limit)) (ok_is (from_bytes e w front, at + byte_len w, drop (byte_len w) text) x p.1)
-            (record { parts = rw back (sym (take-append-drop (byte_len w) text)); moved = rw (exact.len (from_bytes e w front)) refl }, exact.below front small)
+          let front = take (byte_len w) text in
+          let long : byte_len w ≤ length text = ltb-false _ _ p.0 in
+          let len : length front ≡ byte_len w = omega (arith, length-take (byte_len w) text) in
+          let small = bytes_take (byte_len w) text fits in
+          let back = exact.back front len small in
+          subst (λ (y : ℕ × ℕ × List ℕ). Takes at text (to_bytes e w y.0) y.1 y.2 × (y.0 < limit)) (ok_is (from_bytes e w front, at + byte_len w, drop (byte_len w) text) x p.1)
+          (record { parts = rw back (sym (take-append-drop (byte_len w) text)); moved = rw (exact.len (from_bytes e w front)) refl }, exact.below front small)
     ]
 
 pub aligned_takes : (e : Endian) (w : Width) (limit : ℕ) → IsExact e w limit → (at : ℕ) (text : List ℕ) (x : ℕ × ℕ × List ℕ) → IsBytes text → aligned_at e w at text ≡ Ok x → Takes at text (aligned e w x.0 at) x.1 x.2 × (x.0 < limit)
@@ -133,14 +131,14 @@ ended_takes is_valid n at text x h =
       | inr p ↦ elim (chosen (is_valid (take n text)) (zeros_at 1 (at + n) (drop n text) >>= λ nul. Ok (take n text, nul.1, nul.2)) (Err at) (Ok x) p.1) [
         | inr q ↦ absurd (not_ok at x q.1)
         | inl q ↦
-          let front = take n text in
-          let long : n ≤ length text = ltb-false _ _ p.0 in
-          let len : length front ≡ n = omega (arith, length-take n text) in
-          let z = bind_ok (zeros_at 1 (at + n) (drop n text)) (λ nul. Ok (take n text, nul.1, nul.2)) x q.1 in
-          let t = nul_takes (at + n) (drop n text) z.0 z.1 in
-          let head : Takes at text front (at + n) (drop n text) = record { parts = sym (take-append-drop n text); moved = rw len refl } in
-          subst (λ (y : List ℕ × ℕ × List ℕ). Takes at text (y.0 ++ 0 ∷ []) y.1 y.2 × (is_valid y.0 ≡ true) × (length y.0 ≡ n)) (ok_is (front, z.0.1, z.0.2) x z.2)
-              (Takes-then at text front (at + n) (drop n text) (0 ∷ []) z.0.1 z.0.2 head t, q.0, len)
+            let front = take n text in
+            let long : n ≤ length text = ltb-false _ _ p.0 in
+            let len : length front ≡ n = omega (arith, length-take n text) in
+            let z = bind_ok (zeros_at 1 (at + n) (drop n text)) (λ nul. Ok (take n text, nul.1, nul.2)) x q.1 in
+            let t = nul_takes (at + n) (drop n text) z.0 z.1 in
+            let head : Takes at text front (at + n) (drop n text) = record { parts = sym (take-append-drop n text); moved = rw len refl } in
+            subst (λ (y : List ℕ × ℕ × List ℕ). Takes at text (y.0 ++ 0 ∷ []) y.1 y.2 × (is_valid y.0 ≡ true) × (length y.0 ≡ n)) (ok_is (front, z.0.1, z.0.2) x z.2)
+            (Takes-then at text front (at + n) (drop n text) (0 ∷ []) z.0.1 z.0.2 head t, q.0, len)
       ]
     ]
 
@@ -189,7 +187,7 @@ signature_takes at text x fits h =
     let whole = Takes-then at text (length front ∷ []) n.0.1 n.0.2 (front ++ 0 ∷ []) z.0.1 z.0.2 head c.0 in
     let short : length front ≤ 255 = omega (arith, c.1, b.1) in
     subst (λ (y : List ℕ × ℕ × List ℕ). Takes at text (signature_spelling y.0) y.1 y.2 × IsSignature y.0) (ok_is (front, z.0.1, z.0.2) x z.2)
-        (whole, codes_signature (length front) n.0.1 front k.0 k.1 short)
+    (whole, codes_signature (length front) n.0.1 front k.0 k.1 short)
 
 pub type_takes : (at : ℕ) (text : List ℕ) (x : (Kind × List ℕ) × ℕ × List ℕ) → IsBytes text → type_at at text ≡ Ok x → Takes at text (signature_spelling x.0.1) x.1 x.2 × SpellsType x.0.1 x.0.0
 unfolding type_at
@@ -201,12 +199,12 @@ type_takes at text x fits h =
     elim (chosen (eqb (length k.0.2) 0) (zeros_at 1 (n.0.1 + length front) after >>= λ nul. Ok ((k.0.0, front), nul.1, nul.2)) (Err k.0.1) (Ok x) k.2) [
       | inr p ↦ absurd (not_ok k.0.1 x p.1)
       | inl p ↦
-        let z = bind_ok (zeros_at 1 (n.0.1 + length front) after) (λ nul. Ok ((k.0.0, front), nul.1, nul.2)) x p.1 in
-        let b = byte_reads at text n.0 fits n.1 in
-        let c = codes_take n.0.0 n.0.1 n.0.2 z.0 z.1 in
-        let head : Takes at text (length front ∷ []) n.0.1 n.0.2 = rw c.1 b.0 in
-        let whole = Takes-then at text (length front ∷ []) n.0.1 n.0.2 (front ++ 0 ∷ []) z.0.1 z.0.2 head c.0 in
-        let short : length front ≤ 255 = omega (arith, c.1, b.1) in
-        let spelt = one_type_spelt n.0.1 front k.0.0 k.0.1 k.0.2 k.1 (eqb-true (length k.0.2) 0 p.0) short in
-        subst (λ (y : (Kind × List ℕ) × ℕ × List ℕ). Takes at text (signature_spelling y.0.1) y.1 y.2 × SpellsType y.0.1 y.0.0) (ok_is ((k.0.0, front), z.0.1, z.0.2) x z.2) (whole, spelt)
+          let z = bind_ok (zeros_at 1 (n.0.1 + length front) after) (λ nul. Ok ((k.0.0, front), nul.1, nul.2)) x p.1 in
+          let b = byte_reads at text n.0 fits n.1 in
+          let c = codes_take n.0.0 n.0.1 n.0.2 z.0 z.1 in
+          let head : Takes at text (length front ∷ []) n.0.1 n.0.2 = rw c.1 b.0 in
+          let whole = Takes-then at text (length front ∷ []) n.0.1 n.0.2 (front ++ 0 ∷ []) z.0.1 z.0.2 head c.0 in
+          let short : length front ≤ 255 = omega (arith, c.1, b.1) in
+          let spelt = one_type_spelt n.0.1 front k.0.0 k.0.1 k.0.2 k.1 (eqb-true (length k.0.2) 0 p.0) short in
+          subst (λ (y : (Kind × List ℕ) × ℕ × List ℕ). Takes at text (signature_spelling y.0.1) y.1 y.2 × SpellsType y.0.1 y.0.0) (ok_is ((k.0.0, front), z.0.1, z.0.2) x z.2) (whole, spelt)
     ]

@@ -1,22 +1,22 @@
 -- Each value that is spelt is read, whatever follows it.
-use Rattle.std.proofs.Common.{◌≡◌, ℕ, zero, suc, ◌+◌, ◌-◌, ◌^◌, ◌<◌, ◌≤◌, Bool, true, false, cond, ltb, eqb, List, [], ◌∷◌, ◌++◌, length, take, drop, Result, Ok, Err, refl, sym, ap, subst, ◌∙◌, append_assoc, arith}
-use Rattle.std.specs.Int.{w32, byte_len}
+use Rattle.std.proofs.Common.{◌≡◌, ℕ, zero, suc, ◌+◌, ◌^◌, ◌<◌, ◌≤◌, false, ltb, List, [], ◌∷◌, ◌++◌, length, Ok, refl, ap, ◌∙◌, append_assoc, arith}
+use Rattle.std.specs.Int.{w32}
 use Rattle.std.proofs.lemmas.Bool.{le-ltb}
 use Rattle.std.proofs.lemmas.List.{take_at, drop_at, append-nil, length-append}
 use Rattle.dbus_signature.specs.declared.kind.Basic.{Basic}
 use Rattle.dbus_signature.specs.declared.kind.Kind.{Kind}
-use Rattle.dbus_signature.specs.declared.kind.Kind.TheVariants.{Basic as Plain, Variant, Array, Dict, Struct}
+use Rattle.dbus_signature.specs.declared.kind.Kind.TheVariants.{Variant, Array, Dict}
 use Rattle.dbus_signature.specs.declared.kind.Kind.TheViews.{out-Kind}
 use Rattle.dbus_signature.specs.declared.kind.Kind.TheOpen.{Kind-F}
-use Rattle.dbus_signature.specs.Reading.{Read, Reader, ◌>>=◌}
+use Rattle.dbus_signature.specs.Reading.{Reader, ◌>>=◌}
 use Rattle.dbus_signature.specs.Types.{codes}
 use Rattle.dbus_signature.proofs.KindLaws.{by_kind}
 use Rattle.dbus_wire.specs.declared.value.Endian.{Endian}
 use Rattle.dbus_wire.specs.declared.value.Value.{Value}
 use Rattle.dbus_wire.specs.declared.value.Value.TheVariants as value
-use Rattle.dbus_wire.specs.Values.{as_value, basic_value_at, alignment, max_array, items_at, whole_items, contents_at, within_limit, array_at, members_at, struct_at, variant_at, pair_at, value_by, closed_value_by, value_at, entry_at}
+use Rattle.dbus_wire.specs.Values.{as_value, alignment, max_array, items_at, contents_at, array_at, members_at, struct_at, variant_at, pair_at, value_by, closed_value_by, value_at, entry_at}
 use Rattle.dbus_wire.specs.Spelling.{spelling, spellings, padding, to_bytes, signature_spelling, element_alignment, behind_padding, counted, array_spelling}
-use Rattle.dbus_wire.specs.Fits.{Said, Each, Members, IsBasic, IsArray, IsOpen, IsClosed, IsPair, Fits, FitsEntry}
+use Rattle.dbus_wire.specs.Fits.{Said, Each, Members, IsArray, IsOpen, IsClosed, IsPair, Fits, FitsEntry}
 use Rattle.dbus_wire.proofs.Again.{found, moved_to, wide32, padding_again, number_again, type_again}
 use Rattle.dbus_wire.proofs.BasicAgain.{Again, basic_again}
 use Rattle.dbus_wire.proofs.Some.{out_plain, out_variant, out_array, out_dict, out_struct, array_aligned, dict_aligned, basic_some}
@@ -45,8 +45,8 @@ items_again e item said reads (v ∷ vs) (suc n) at enough each =
     let others = spellings e vs here in
     let some : 0 < length (first ++ others) = omega (arith, reads.some at v each.0, length-append first others) in
     items_step item n at (first ++ others) some
-        ∙ rw (reads.again at v each.0 others, items_again e item said reads vs n here (omega arith) each.1)
-            (moved_to (v ∷ vs) _ _ [] (omega (arith, length-append first others)))
+    ∙ rw (reads.again at v each.0 others, items_again e item said reads vs n here (omega arith) each.1)
+    (moved_to (v ∷ vs) _ _ [] (omega (arith, length-append first others)))
 
 each_count : (e : Endian) (item : Reader Value) (said : Said) → Reads e said item → (vs : List Value) (at : ℕ) → Each e said vs at → length vs ≤ length (spellings e vs at)
 each_count e item said reads [] at each = omega arith
@@ -76,9 +76,9 @@ array_again e align item said reads vs at rest is =
     let short : length text < 2 ^ 32 = omega (arith, is.1) in
     let within : ltb max_array (length text) ≡ false = le-ltb _ _ is.1 in
     let regrouped : (pad ++ (number ++ (gap ++ text))) ++ rest ≡ pad ++ (number ++ (gap ++ (text ++ rest)))
-            = append_assoc pad (number ++ (gap ++ text)) rest ∙ ap (λ (t : List ℕ). pad ++ t) (append_assoc number (gap ++ text) rest ∙ ap (λ (t : List ℕ). number ++ t) (append_assoc gap text rest)) in
+    = append_assoc pad (number ++ (gap ++ text)) rest ∙ ap (λ (t : List ℕ). pad ++ t) (append_assoc number (gap ++ text) rest ∙ ap (λ (t : List ℕ). number ++ t) (append_assoc gap text rest)) in
     rw (regrouped, padding_again 4 at (number ++ (gap ++ (text ++ rest))), number_again e w32 (2 ^ 32) (wide32 e) (length text) place (gap ++ (text ++ rest)) short, within, padding_again align (place + 4) (text ++ rest), contents_again e item said reads vs first rest is.0)
-        (moved_to vs _ _ rest (omega (arith, length-append pad (number ++ (gap ++ text)), length-append number (gap ++ text), length-append gap text, (wide32 e).len (length text))))
+    (moved_to vs _ _ rest (omega (arith, length-append pad (number ++ (gap ++ text)), length-append number (gap ++ text), length-append gap text, (wide32 e).len (length text))))
 
 -- ---- members
 
@@ -94,7 +94,7 @@ members_again e read said reads (k ∷ ks) (v ∷ vs) at rest fit =
     let others = spellings e vs here in
     let regrouped : (first ++ others) ++ rest ≡ first ++ (others ++ rest) = append_assoc first others rest in
     rw (regrouped, (reads k).again at v fit.0 (others ++ rest), members_again e read said reads ks vs here rest fit.1)
-        (moved_to (v ∷ vs) _ _ rest (omega (arith, length-append first others)))
+    (moved_to (v ∷ vs) _ _ rest (omega (arith, length-append first others)))
 
 -- ---- one level
 
@@ -115,7 +115,7 @@ open_struct e read said reads ks vs at rest fit =
     let text = spellings e vs (at + length pad) in
     let regrouped : (pad ++ text) ++ rest ≡ pad ++ (text ++ rest) = append_assoc pad text rest in
     rw (spelt_struct e vs at, regrouped, padding_again 8 at (text ++ rest), members_again e read said reads ks vs (at + length pad) rest fit)
-        (moved_to (value.Struct vs) _ _ rest (omega (arith, length-append pad text)))
+    (moved_to (value.Struct vs) _ _ rest (omega (arith, length-append pad text)))
 
 open_variant : (e : Endian) (read : Kind → Reader Value) (said : Kind → Said) → ((k : Kind) → Reads e (said k) (read k)) → (entry : Basic → Kind → Reader Value) (said_entry : Basic → Kind → Said) (kind : Kind)
     → Opens e read entry said said_entry kind Kind-F.Variant
@@ -126,7 +126,7 @@ open_variant e read said reads entry said_entry kind at v is rest =
     let text = spelling e is.2 here in
     let regrouped : (head ++ text) ++ rest ≡ head ++ (text ++ rest) = append_assoc head text rest in
     rw (is.3, spelt_variant e is.0 is.2 at, regrouped, type_again is.0 is.1 at (text ++ rest) is.4, (reads is.1).again here is.2 is.5 rest)
-        (moved_to (value.Variant is.0 is.2) _ _ rest (omega (arith, length-append head text)))
+    (moved_to (value.Variant is.0 is.2) _ _ rest (omega (arith, length-append head text)))
 
 open_pair : (e : Endian) (key : Basic) (read : Reader Value) (said : Said) → Reads e said read → (at : ℕ) (v : Value) → IsPair e key said at v → Again (pair_at e key read) e at v
 unfolding pair_at
@@ -139,7 +139,7 @@ open_pair e key read said reads at v is rest =
     let spelt : spelling e (value.Pair is.0 is.1) at ≡ pad ++ (first ++ second) = spelt_pair e is.0 is.1 at ∙ ap (λ (t : List ℕ). pad ++ (first ++ t)) (append-nil second) in
     let regrouped : (pad ++ (first ++ second)) ++ rest ≡ pad ++ (first ++ (second ++ rest)) = append_assoc pad (first ++ second) rest ∙ ap (λ (t : List ℕ). pad ++ t) (append_assoc first second rest) in
     rw (is.2, spelt, regrouped, padding_again 8 at (first ++ (second ++ rest)), basic_again e key start is.0 is.3 (second ++ rest), reads.again middle is.1 is.4 rest)
-        (moved_to (value.Pair is.0 is.1) _ _ rest (omega (arith, length-append pad (first ++ second), length-append first second)))
+    (moved_to (value.Pair is.0 is.1) _ _ rest (omega (arith, length-append pad (first ++ second), length-append first second)))
 
 opens : (e : Endian) (read : Kind → Reader Value) (entry : Basic → Kind → Reader Value) (said : Kind → Said) (said_entry : Basic → Kind → Said) → ((k : Kind) → Reads e (said k) (read k)) → ((b : Basic) (k : Kind) → Reads e (said_entry b k) (entry b k))
     → (kind : Kind) → Opens e read entry said said_entry kind (out-Kind kind)
@@ -160,7 +160,7 @@ array_some e align said kind at v is =
     let inner = at + length pad + 4 + length (padding (element_alignment (codes kind)) (at + length pad + 4)) in
     let number = to_bytes e w32 (length (contents inner)) in
     rw (is.1, spelt_array e (codes kind) is.0 at)
-        (omega (arith, length-append pad behind, length-append number (behind_padding (element_alignment (codes kind)) contents (at + length pad + 4)), (wide32 e).len (length (contents inner))))
+    (omega (arith, length-append pad behind, length-append number (behind_padding (element_alignment (codes kind)) contents (at + length pad + 4)), (wide32 e).len (length (contents inner))))
 
 struct_some : (e : Endian) (read : Kind → Reader Value) (said : Kind → Said) → ((k : Kind) → Reads e (said k) (read k)) → (ks : List Kind) (vs : List Value) (at : ℕ) → 0 < length vs → Members e said ks vs (at + length (padding 8 at)) → 0 < length (spelling e (value.Struct vs) at)
 struct_some e read said reads ks [] at some fit = absurd (omega arith)

@@ -1,16 +1,16 @@
 -- What is read of a value is its spelling.
-use Rattle.std.proofs.Common.{◌≡◌, ℕ, zero, suc, ◌+◌, ◌-◌, ◌^◌, ◌<◌, ◌≤◌, Bool, true, false, cond, ltb, eqb, List, [], ◌∷◌, ◌++◌, length, take, drop, Result, Ok, Err, refl, sym, ap, subst, ◌∙◌, append_assoc, arith, inl, inr}
-use Rattle.std.specs.Int.{w32, byte_len}
+use Rattle.std.proofs.Common.{◌≡◌, ℕ, zero, suc, ◌+◌, ◌^◌, ◌<◌, ◌≤◌, ltb, List, [], ◌∷◌, ◌++◌, length, take, drop, Ok, Err, refl, sym, ap, subst, ◌∙◌, arith, inl, inr}
+use Rattle.std.specs.Int.{w32}
 use Rattle.std.specs.List.{AllByRecursion}
 use Rattle.std.proofs.lemmas.Bool.{ltb-false}
-use Rattle.std.proofs.lemmas.List.{take-append-drop, append-nil, length-append, length-take}
+use Rattle.std.proofs.lemmas.List.{take-append-drop, append-nil, length-take}
 use Rattle.dbus_signature.specs.declared.kind.Basic.{Basic}
 use Rattle.dbus_signature.specs.declared.kind.Kind.{Kind}
-use Rattle.dbus_signature.specs.declared.kind.Kind.TheVariants.{Basic as Plain, Variant, Array, Dict, Struct}
+use Rattle.dbus_signature.specs.declared.kind.Kind.TheVariants.{Variant, Array, Dict, Struct}
 use Rattle.dbus_signature.specs.declared.kind.Kind.TheViews.{out-Kind}
 use Rattle.dbus_signature.specs.declared.kind.Kind.TheOpen.{Kind-F}
-use Rattle.dbus_signature.specs.Reading.{Read, Reader, ◌>>=◌}
-use Rattle.dbus_signature.specs.Types.{codes, nests}
+use Rattle.dbus_signature.specs.Reading.{Reader, ◌>>=◌}
+use Rattle.dbus_signature.specs.Types.{codes}
 use Rattle.dbus_signature.specs.Signatures.{IsKind}
 use Rattle.dbus_signature.proofs.KindLaws.{by_kind}
 use Rattle.dbus_signature.proofs.Inner.{element_is, value_is, all_members_are, struct_some}
@@ -20,8 +20,8 @@ use Rattle.dbus_wire.specs.declared.value.Value.{Value}
 use Rattle.dbus_wire.specs.declared.value.Value.TheVariants as value
 use Rattle.dbus_wire.specs.Values.{as_value, basic_value_at, alignment, max_array, items_at, whole_items, contents_at, within_limit, array_at, members_at, struct_at, variant_at, pair_at, value_by, closed_value_by, value_at, entry_at}
 use Rattle.dbus_wire.specs.Fields.{number_at, padding_at, type_at}
-use Rattle.dbus_wire.specs.Spelling.{spelling, spellings, padding, to_bytes, signature_spelling, element_alignment, behind_padding, counted, array_spelling}
-use Rattle.dbus_wire.specs.Fits.{Said, Each, Members, IsBasic, IsArray, IsOpen, IsClosed, IsPair, Fits, FitsEntry}
+use Rattle.dbus_wire.specs.Spelling.{spelling, spellings, padding, to_bytes, signature_spelling, element_alignment, counted, array_spelling}
+use Rattle.dbus_wire.specs.Fits.{Said, Each, Members, IsArray, IsOpen, IsClosed, IsPair, Fits, FitsEntry}
 use Rattle.dbus_wire.proofs.Took.{IsBytes, bytes_rest, bytes_take, exact32, padding_takes, number_takes, type_takes}
 use Rattle.dbus_wire.proofs.BasicTook.{Took, took_made, basic_took}
 use Rattle.dbus_wire.proofs.Some.{out_plain, out_variant, out_array, out_dict, out_struct, array_aligned, dict_aligned}
@@ -63,12 +63,12 @@ contents_took e item said honest n at text x fits h =
     elim (chosen (ltb (length text) n) (Err (at + length front)) (Ok (i.0.0, at + length front, drop n text)) (Ok x) i.2) [
       | inl p ↦ absurd (not_ok (at + length front) x p.1)
       | inr p ↦
-        let long : n ≤ length text = ltb-false _ _ p.0 in
-        let len : length front ≡ n = omega (arith, length-take n text) in
-        let spelt : front ≡ spellings e i.0.0 at = t.0.0.parts ∙ ap (λ (r : List ℕ). spellings e i.0.0 at ++ r) t.1 ∙ append-nil (spellings e i.0.0 at) in
-        let size : length (spellings e i.0.0 at) ≡ n = sym (ap length spelt) ∙ len in
-        subst (λ (y : List Value × ℕ × List ℕ). TookAll e said at text y × (length (spellings e y.0 at) ≡ n)) (ok_is (i.0.0, at + length front, drop n text) x p.1)
-            ((record { parts = sym (take-append-drop n text) ∙ ap (λ (l : List ℕ). l ++ drop n text) spelt; moved = ap (λ (l : List ℕ). at + length l) spelt }, t.0.1), size)
+          let long : n ≤ length text = ltb-false _ _ p.0 in
+          let len : length front ≡ n = omega (arith, length-take n text) in
+          let spelt : front ≡ spellings e i.0.0 at = t.0.0.parts ∙ ap (λ (r : List ℕ). spellings e i.0.0 at ++ r) t.1 ∙ append-nil (spellings e i.0.0 at) in
+          let size : length (spellings e i.0.0 at) ≡ n = sym (ap length spelt) ∙ len in
+          subst (λ (y : List Value × ℕ × List ℕ). TookAll e said at text y × (length (spellings e y.0 at) ≡ n)) (ok_is (i.0.0, at + length front, drop n text) x p.1)
+          ((record { parts = sym (take-append-drop n text) ∙ ap (λ (l : List ℕ). l ++ drop n text) spelt; moved = ap (λ (l : List ℕ). at + length l) spelt }, t.0.1), size)
     ]
 
 limit_is : (place : ℕ) (n m : ℕ × ℕ × List ℕ) → within_limit place n ≡ Ok m → (n ≡ m) × (n.0 ≤ max_array)
@@ -147,7 +147,7 @@ struct_took e read said entry honest ks some are at text x fits h =
     let fit : Members e said ks m.0.0 (at + length (padding 8 at)) = subst (λ (k : ℕ). Members e said ks m.0.0 k) here t.1 in
     let whole = Takes-then at text (padding 8 at) s.0.1 s.0.2 (spellings e m.0.0 (at + length (padding 8 at))) m.0.1 m.0.2 p row in
     subst (λ (y : Value × ℕ × List ℕ). Took e (IsOpen e said entry (Struct ks) (Kind-F.Struct ks)) at text y) (ok_is (value.Struct m.0.0, m.0.1, m.0.2) x m.2)
-        (rw (spelt_struct e m.0.0 at) whole, (m.0.0, refl, omega (arith, t.2), fit))
+    (rw (spelt_struct e m.0.0 at) whole, (m.0.0, refl, omega (arith, t.2), fit))
 
 variant_took : (e : Endian) (read : Kind → Reader Value) (said : Kind → Said) (entry : Basic → Kind → Said) (kind : Kind) → ((k : Kind) → IsKind k → Honest e (said k) (read k)) → Honest e (IsOpen e said entry kind Kind-F.Variant) (variant_at read)
 unfolding variant_at
@@ -163,7 +163,7 @@ variant_took e read said entry kind honest at text x fits h =
     let fit : said k.0.0.0 (at + length head) v.0.0 = subst (λ (n : ℕ). said k.0.0.0 n v.0.0) here u.1 in
     let whole = Takes-then at text head k.0.1 k.0.2 (spelling e v.0.0 (at + length head)) v.0.1 v.0.2 t.0 inner in
     subst (λ (y : Value × ℕ × List ℕ). Took e (IsOpen e said entry kind Kind-F.Variant) at text y) (ok_is (value.Variant k.0.0.1 v.0.0, v.0.1, v.0.2) x v.2)
-        (rw (spelt_variant e k.0.0.1 v.0.0 at) whole, (k.0.0.1, k.0.0.0, v.0.0, refl, t.1, fit))
+    (rw (spelt_variant e k.0.0.1 v.0.0 at) whole, (k.0.0.1, k.0.0.0, v.0.0, refl, t.1, fit))
 
 pair_took : (e : Endian) (key : Basic) (read : Reader Value) (said : Said) → Honest e said read → Honest e (IsPair e key said) (pair_at e key read)
 unfolding pair_at
@@ -185,17 +185,17 @@ pair_took e key read said honest at text x fits h =
     let both = Takes-then s.0.1 s.0.2 (spelling e a.0.0 start) a.0.1 a.0.2 (spelling e b.0.0 (start + length (spelling e a.0.0 start))) b.0.1 b.0.2 first second in
     let whole = Takes-then at text (padding 8 at) s.0.1 s.0.2 (spelling e a.0.0 start ++ spelling e b.0.0 (start + length (spelling e a.0.0 start))) b.0.1 b.0.2 p both in
     let spelt : spelling e (value.Pair a.0.0 b.0.0) at ≡ padding 8 at ++ (spelling e a.0.0 start ++ spelling e b.0.0 (start + length (spelling e a.0.0 start)))
-            = spelt_pair e a.0.0 b.0.0 at ∙ ap (λ (r : List ℕ). padding 8 at ++ (spelling e a.0.0 start ++ r)) (append-nil (spelling e b.0.0 (start + length (spelling e a.0.0 start)))) in
+    = spelt_pair e a.0.0 b.0.0 at ∙ ap (λ (r : List ℕ). padding 8 at ++ (spelling e a.0.0 start ++ r)) (append-nil (spelling e b.0.0 (start + length (spelling e a.0.0 start)))) in
     subst (λ (y : Value × ℕ × List ℕ). Took e (IsPair e key said) at text y) (ok_is (value.Pair a.0.0 b.0.0, b.0.1, b.0.2) x b.2)
-        (rw spelt whole, (a.0.0, b.0.0, refl, t.1, fit))
+    (rw spelt whole, (a.0.0, b.0.0, refl, t.1, fit))
 
 array_value_took : (e : Endian) (align : ℕ) (item : Reader Value) (said : Said) (kind : Kind) → Honest e said item → element_alignment (codes kind) ≡ align
     → Honest e (IsArray e align said kind) (λ at text. as_value (value.Array (codes kind)) (array_at e align item at text))
 array_value_took e align item said kind honest aligned at text x fits h =
     took_made (value.Array (codes kind)) e (IsArray e align said kind) at text (array_at e align item at text) x h (λ y is.
-        let t = array_took e align item said honest at text y fits is in
-        let spelt : spelling e (value.Array (codes kind) y.0) at ≡ array_spelling e align (spellings e y.0) at = spelt_array e (codes kind) y.0 at ∙ ap (λ (n : ℕ). array_spelling e n (spellings e y.0) at) aligned in
-        (rw spelt t.0, (y.0, refl, t.1, t.2)))
+    let t = array_took e align item said honest at text y fits is in
+    let spelt : spelling e (value.Array (codes kind) y.0) at ≡ array_spelling e align (spellings e y.0) at = spelt_array e (codes kind) y.0 at ∙ ap (λ (n : ℕ). array_spelling e n (spellings e y.0) at) aligned in
+    (rw spelt t.0, (y.0, refl, t.1, t.2)))
 
 abbrev Level : Endian → (Kind → Reader Value) → (Basic → Kind → Reader Value) → (Kind → Said) → (Basic → Kind → Said) → Kind → Kind-F Kind → Type 0
 Level e read entry said said_entry kind layer = IsKind kind → Honest e (IsOpen e said said_entry kind layer) (value_by e read entry kind layer)

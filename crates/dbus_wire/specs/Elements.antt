@@ -1,5 +1,5 @@
 -- What arrays hold.
-use Rattle.std.specs.Prelude.{ℕ, Result}
+use Rattle.std.specs.Prelude.{ℕ}
 use Rattle.dbus_signature.specs.Reading.{Reader}
 use Rattle.dbus_signature.specs.Signatures.{IsKind}
 use Rattle.dbus_wire.specs.declared.value.Endian.{Endian}

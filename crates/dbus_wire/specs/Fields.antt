@@ -1,6 +1,6 @@
 -- The fields of a value: padding, numbers, texts and signatures, read from left to right with the place of the
 -- first fault (D-Bus Specification, "Marshaling (Wire Format)").
-use Rattle.std.specs.Prelude.{◌≡◌, ℕ, zero, suc, ◌+◌, ◌-◌, ◌%◌, ◌==◌, nat_lt, Bool, true, false, List, [], ◌∷◌, length, take, drop, Result, Ok, Err, if◌then◌else◌}
+use Rattle.std.specs.Prelude.{ℕ, zero, suc, ◌+◌, ◌-◌, ◌%◌, ◌==◌, nat_lt, Bool, true, false, List, [], ◌∷◌, length, take, drop, Ok, Err, if◌then◌else◌}
 use Rattle.std.specs.Int.{Width, w32, byte_len, from_le_bytes, from_be_bytes}
 use Rattle.dbus_signature.specs.declared.kind.Kind.{Kind}
 use Rattle.dbus_signature.specs.Reading.{Read, Reader, ◌>>=◌}

@@ -14,7 +14,10 @@ mod value;
 mod writing;
 
 pub use dbus_signature::{Signature, WireError, read_signature};
-pub use laws::{no_spelling_begins_another, written_is_read};
+pub use laws::{a_fault_where_nothing_is_spelt, no_spelling_begins_another, written_is_read};
 pub use read::read_value;
 pub use value::{Endian, Value};
 pub use writing::write_value;
+
+#[cfg(test)]
+mod tests;

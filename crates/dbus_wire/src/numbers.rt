@@ -4,7 +4,6 @@ ghost use Rattle.std.specs.Prelude.{◌≡◌, ◌<◌, ◌≤◌, ◌+◌, ◌^
 ghost use Rattle.std.specs.Int.{w16, w32, w64};
 ghost use Rattle.dbus_wire.specs.Spelling.{aligned, padding, signature_spelling, text_spelling, to_bytes};
 
-
 use crate::fields::gap;
 use crate::value::{Endian, Value};
 use fw_base::Memory;

@@ -100,10 +100,7 @@ fn codes_of(bytes: &[u8], count: u8) -> (&[u8], &[u8])
 ///
 /// The place of Bad is that of the first code that no signature has there, or of the byte that is missing.
 #[tactic(auto, unfolding(crate::specs::Fields::signature_at))]
-pub fn signature_at(
-    alloc: Global,
-    from: Cursor<'_>,
-) -> Result<(Signature, Cursor<'_>), WireError>
+pub fn signature_at(alloc: Global, from: Cursor<'_>) -> Result<(Signature, Cursor<'_>), WireError>
     ensures { Gives seen result (read_at signature_at from.entry) }
 {
     let (count, start) = byte_at(from)?;
@@ -126,10 +123,7 @@ pub fn signature_at(
 ///
 /// The place of Bad is as for a signature; the first code of a second type is at fault.
 #[tactic(auto, unfolding(crate::specs::Fields::type_at))]
-pub fn type_at(
-    alloc: Global,
-    from: Cursor<'_>,
-) -> Result<(Kind, Signature, Cursor<'_>), WireError>
+pub fn type_at(alloc: Global, from: Cursor<'_>) -> Result<(Kind, Signature, Cursor<'_>), WireError>
     ensures exact { Gives seen_type result (read_at type_at from.entry) }
     ensures valid { IfOk result (λ found. IsKind found.0) }
 {

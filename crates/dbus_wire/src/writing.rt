@@ -3,7 +3,9 @@
 ghost use Rattle.std.specs.Prelude.{◌≡◌, ◌<◌, ◌^◌, ◌++◌, length, OnOk, OnErr};
 ghost use Rattle.dbus_wire.specs.Spelling.{array_spelling, element_alignment, letter_alignment, spelling, spellings};
 
-use crate::numbers::{push_padding, push_signature, push_text, push_u16, push_u32, push_u64, set_u32};
+use crate::numbers::{
+    push_padding, push_signature, push_text, push_u16, push_u32, push_u64, set_u32,
+};
 use crate::value::{Endian, Value};
 use fw_base::Memory;
 

@@ -1,8 +1,8 @@
-use Rattle.std.proofs.Common.{◌≡◌, length, sym, ap, ◌∙◌, arith, rules, ℕ, List, ◌∷◌, [], ◌++◌}
+use Rattle.std.proofs.Common.{sym}
 use Rattle.std.proofs.lemmas.Result.{err_from_is_err_and}
 use Rattle.dbus_signature.specs.Cursors.{place}
-use Rattle.dbus_signature.specs.Signatures.{kind_at, members_at}
-use Rattle.dbus_signature.proofs.KindLaws.{opens_array, opens_struct, opens_variant, opens_end}
+use Rattle.dbus_signature.specs.Signatures.{kind_at}
+use Rattle.dbus_signature.proofs.KindLaws.{opens_end}
 use Rattle.dbus_signature.proofs.Loops.{goes_on, closes, ends}
 use Rattle.dbus_signature.proofs.kinds.+kind.Goals as goal
 

@@ -1,4 +1,4 @@
-use Rattle.std.proofs.Common.{◌≡◌, ◌<◌, ◌≤◌, length, ℕ, ◌+◌, ◌*◌}
+use Rattle.std.proofs.Common.{length, ◌+◌, ◌*◌}
 use Rattle.dbus_signature.specs.Signatures.{kind_at, members_at}
 use Rattle.dbus_signature.proofs.Loops.{GoesOn, with_members}
 use Rattle.dbus_signature.proofs.kinds.+kind.Given as goal

@@ -9,5 +9,5 @@ push_all-loop-kind-preserved t c =
     let before = all_codes (take c.loop-kind.kind-index c.args.kinds.now) in
     let more = all_codes_more c.args.kinds.now c.loop-kind.kind-index c.kind-item.result c.loop-kind-test.true in
     c.in_ok-push_codes.ensures ∙ ap (λ (x : List ℕ). x ++ codes c.kind-item.result) c.loop-kind.invariant
-        ∙ append_assoc c.args.out.now.items before (codes c.kind-item.result)
-        ∙ ap (λ (x : List ℕ). c.args.out.now.items ++ x) (ap (λ (k : Kind). before ++ codes k) c.kind-item.is ∙ sym more)
+    ∙ append_assoc c.args.out.now.items before (codes c.kind-item.result)
+    ∙ ap (λ (x : List ℕ). c.args.out.now.items ++ x) (ap (λ (k : Kind). before ++ codes k) c.kind-item.is ∙ sym more)

@@ -43,9 +43,9 @@ decreases-pair_at l = 8 * l.room + 1
 abbrev pub invariant-members_at-loop-kind : goal.invariant-members_at-loop-kind
 invariant-members_at-loop-kind l =
     with_values l.members (members_at (value_at l.endian l.room) (drop l.kind-index l.kinds) l.next.at l.next.rest.now)
-        ≡ members_at (value_at l.endian l.room) l.kinds l.fn.from.at l.fn.from.rest.now
+    ≡ members_at (value_at l.endian l.room) l.kinds l.fn.from.at l.fn.from.rest.now
 
 abbrev pub invariant-items_at-loop : goal.invariant-items_at-loop
 invariant-items_at-loop l =
     with_values l.items (items_at (element_at l.endian l.room l.element) (length l.fn.from.rest.now - l.counter) l.next.at l.next.rest.now)
-        ≡ items_at (element_at l.endian l.room l.element) (length l.fn.from.rest.now) l.fn.from.at l.fn.from.rest.now
+    ≡ items_at (element_at l.endian l.room l.element) (length l.fn.from.rest.now) l.fn.from.at l.fn.from.rest.now

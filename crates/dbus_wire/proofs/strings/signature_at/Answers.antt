@@ -1,4 +1,3 @@
-use Rattle.std.proofs.Common.{◌<◌, ◌≤◌, length, arith}
 use Rattle.dbus_wire.proofs.StringLaws.{codes_signature}
 use Rattle.dbus_wire.proofs.strings.signature_at.Goals as goal
 

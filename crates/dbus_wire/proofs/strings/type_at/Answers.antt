@@ -1,4 +1,4 @@
-use Rattle.std.proofs.Common.{◌≡◌, ◌<◌, ◌≤◌, length, arith}
+use Rattle.std.proofs.Common.{◌≡◌, length, arith}
 use Rattle.dbus_wire.proofs.StringLaws.{one_type_signature, one_type_kind}
 use Rattle.dbus_wire.proofs.strings.type_at.Goals as goal
 

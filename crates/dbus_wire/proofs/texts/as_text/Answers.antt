@@ -1,6 +1,5 @@
-use Rattle.std.proofs.Common.{sym, ap, true, false}
+use Rattle.std.proofs.Common.{sym, ap}
 use Rattle.std.specs.Prelude.{not}
-use Rattle.std.specs.Str.{is_utf8}
 use Rattle.std.proofs.lemmas.Bool.{and_from, and_left}
 use Rattle.std.proofs.lemmas.Str.{is_utf8-from_IsUtf8}
 use Rattle.dbus_wire.proofs.FieldLaws.{not_utf8}

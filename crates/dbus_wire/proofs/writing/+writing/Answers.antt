@@ -1,5 +1,4 @@
-use Rattle.std.proofs.Common.{arith, rules, ap}
-use Rattle.std.proofs.lemmas.Grind.{common_steps}
+use Rattle.std.proofs.Common.{arith, ap}
 use denote.Param.Weighed.{at_most}
 use Rattle.dbus_wire.proofs.value.Value.TheLaws.{the_size}
 use Rattle.dbus_wire.proofs.SpellingLaws.{row_goes_on, item_short}

@@ -1,4 +1,3 @@
-use Rattle.std.proofs.Common.{subst}
 use Rattle.dbus_signature.proofs.Whole.{one_type_is, one_type_never_fails}
 use Rattle.dbus_signature.proofs.signature.Signature.kind.Goals as goal
 
