@@ -1,0 +1,12 @@
+//! The server's side of the D-Bus authentication protocol, line by line, with the one mechanism EXTERNAL
+//! (D-Bus Specification, "Authentication Protocol").
+#![tactic(auto)]
+
+mod answer;
+mod auth;
+mod identity;
+#[cfg(test)]
+mod tests;
+
+pub use answer::{AuthAnswer, AuthEnd, Stage};
+pub use auth::{Auth, GUID};

@@ -1,0 +1,12 @@
+pub mod GapLemmas
+pub mod GroupLemmas
+pub mod HexLemmas
+pub mod Ipv6Laws
+pub mod LawLemmas
+pub mod MaskLaws
+pub mod NetLaws
+pub mod NetLemmas
+pub mod PieceLemmas
+pub mod PowerLemmas
+pub mod RunLemmas
+pub mod TextLemmas

@@ -1,0 +1,6 @@
+use Rattle.std.proofs.Common.{◌∙◌, ap, bit_and}
+use Rattle.std.proofs.lemmas.Nat.Bits.{and_high_mask}
+use Rattle.fw_addr.proofs.net.clear_u128.Goals as goal
+
+pub returns : goal.returns
+returns c = ap (λ mask. bit_and c.args.number mask) c.mask_u128.ensures ∙ and_high_mask 128 c.args.low c.requires c.args.number c.ranges.number.fits

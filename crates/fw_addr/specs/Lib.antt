@@ -1,0 +1,11 @@
+pub mod Addresses
+pub mod Canonical
+pub mod Hardware
+pub mod Hexadecimal
+pub mod Icmp
+pub mod Interfaces
+pub mod Nets
+pub mod Ports
+pub mod Protocols
+pub mod Subnets
+pub mod WellFormed

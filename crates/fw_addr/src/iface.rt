@@ -1,0 +1,99 @@
+//! Names of network interfaces, and entries that stand for all names with a prefix.
+ghost use Rattle.std.specs.Prelude.{◌≡◌};
+ghost use Rattle.std.specs.List.{list_all};
+ghost use Rattle.std.specs.Option.{ok_or, option_copied};
+ghost use Rattle.fw_addr.specs.Interfaces.{interface, is_interface, is_interface_byte, is_interface_name, matches, before_plus};
+
+use super::AddrError;
+use arrayvec::ArrayString;
+use fw_base::{Memory, TryCopy};
+use std::alloc::Global;
+use std::marker::Model;
+
+/// An interface's name, or a prefix and `+`, which stands for every name with that prefix. Contracts see its bytes.
+#[derive(Clone, Debug, Drop)]
+pub struct Iface {
+    name: ArrayString<15>,
+}
+
+impl Model for Iface {
+    ghost use Rattle.std.specs.Prelude.{ℕ, List, IsTrue};
+    ghost use Rattle.fw_addr.specs.Interfaces.{is_interface};
+
+    ghost Value = { List ℕ };
+
+    ghost view = { λ iface. iface.name.bytes };
+
+    ghost invariant = { λ iface. IsTrue (is_interface iface.name.bytes) };
+}
+
+impl Iface {
+    /// The text of the entry, a `+` at its end included.
+    pub fn as_str(&self) -> &str
+        ensures { result.now ≡ self.now }
+    {
+        self.name.as_str()
+    }
+
+    /// Whether the entry stands for a name: for itself, or where it ends in `+`, for each name that begins with
+    /// what is before the `+`.
+    pub fn matches(&self, name: &str) -> bool
+        ensures { result ≡ matches self.now name.now }
+    {
+        let entry = self.as_str().as_bytes();
+        match before_plus(entry) {
+            Some(front) => name.as_bytes().starts_with(front),
+            None => name.as_bytes() == entry,
+        }
+    }
+}
+
+impl TryCopy for Iface {
+    fn copy(&self, _alloc: Global) -> Result<Iface, Memory> {
+        Ok(Iface { name: self.name })
+    }
+}
+
+/// Reads an interface: at most 15 letters, digits, `-`, `.`, `:`, `@` and `_`, at least one of them, with one
+/// `+` allowed at the end.
+pub fn read_iface(text: &str) -> Result<Iface, AddrError>
+    ensures { result ≡ ok_or (interface text.now) AddrError.InvalidInterface }
+{
+    if !is_interface(text.as_bytes()) {
+        return Err(AddrError::InvalidInterface);
+    }
+    match ArrayString::from(text) {
+        Ok(name) => Ok(Iface { name }),
+        Err(_) => Err(AddrError::InvalidInterface),
+    }
+}
+
+fn is_interface(text: &[u8]) -> bool
+    ensures { result ≡ is_interface text.now }
+{
+    text.len() <= 15 && is_name(before_plus(text).unwrap_or(text))
+}
+
+fn before_plus(text: &[u8]) -> Option<&[u8]>
+    ensures { option_copied result ≡ before_plus text.now }
+{
+    text.strip_suffix(b"+")
+}
+
+fn is_name(text: &[u8]) -> bool
+    ensures { result ≡ is_interface_name text.now }
+{
+    !text.is_empty() && are_name_bytes(text)
+}
+
+fn are_name_bytes(text: &[u8]) -> bool
+    ensures { result ≡ list_all is_interface_byte text.now }
+{
+    text.iter().all(|byte| is_name_byte(*byte))
+}
+
+fn is_name_byte(byte: u8) -> bool
+    ensures { result ≡ is_interface_byte byte }
+{
+    byte.is_ascii_alphanumeric() || matches!(byte, b'-' | b'.' | b':' | b'@' | b'_')
+}

@@ -1,0 +1,8 @@
+pub mod Calls
+pub mod Line
+pub mod OutcomeText
+pub mod Outcomes
+pub mod Packets
+pub mod Quoted
+pub mod Steps
+pub mod Words

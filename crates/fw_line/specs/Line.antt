@@ -1,0 +1,29 @@
+-- What a line of a script says. The script language is this project's own.
+use Rattle.std.specs.Prelude.{ℕ, ◌==◌, Bool, true, not, if◌then◌else◌, codes, List, [], ◌∷◌, Option, None, Some}
+use Rattle.std.specs.Option.{option_map}
+use Rattle.std.specs.Str.{bytes_eq, is_utf8}
+use Rattle.fw_text.specs.Pieces.{pieces}
+use Rattle.fw_line.specs.Calls.{call_of}
+use Rattle.fw_line.specs.Packets.{packet_of}
+use Rattle.fw_line.specs.declared.line.Line.{Line}
+use Rattle.fw_line.specs.declared.line.Line.TheVariants as line
+
+-- by its first word a line is a call or a packet
+unfoldable pub line_of_words : List (List ℕ) → Option Line
+line_of_words [] = None
+line_of_words (word ∷ words) =
+    if bytes_eq word (codes "call") then option_map line.Call (call_of words)
+    else if bytes_eq word (codes "packet") then option_map line.Packet (packet_of words)
+    else None
+
+-- an empty line, and one that begins with `#`
+abbrev pub is_skipped : List ℕ → Bool
+is_skipped [] = true
+is_skipped (first ∷ line) = first == 35
+
+-- What a line says, where it is in the grammar: text in UTF-8 that is skipped, or its words between blanks.
+unfoldable pub line_of : List ℕ → Option Line
+line_of bytes =
+    if not (is_utf8 bytes) then None
+    else if is_skipped bytes then Some line.Skip
+    else line_of_words (pieces 32 bytes)

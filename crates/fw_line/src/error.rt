@@ -1,0 +1,34 @@
+//! Why a line is refused.
+ghost use Rattle.std.specs.Prelude.{◌≡◌};
+ghost use Rattle.fw_line.specs.declared.error.LineError.TheVariants.{Memory as OutOfMemory};
+
+use fw_base::Memory;
+use std::error::Error;
+use std::fmt;
+
+/// Why a line could not be read.
+#[derive(Clone, Copy, Debug, PartialEq, Eq)]
+pub enum LineError {
+    /// The line is outside the grammar.
+    BadLine,
+    Memory,
+}
+
+impl fmt::Display for LineError {
+    fn fmt<W: fmt::Write>(&self, f: &mut fmt::Formatter<W>) -> fmt::Result {
+        match self {
+            LineError::BadLine => write!(f, "bad line"),
+            LineError::Memory => write!(f, "out of memory"),
+        }
+    }
+}
+
+impl Error for LineError {}
+
+impl From<Memory> for LineError {
+    ghost from_gives = { λ _ e. e ≡ OutOfMemory };
+
+    fn from(_error: Memory) -> LineError {
+        LineError::Memory
+    }
+}

@@ -1,0 +1,4 @@
+pub mod Names
+pub mod Number
+pub mod Pieces
+pub mod Steps

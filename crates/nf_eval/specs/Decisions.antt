@@ -1,0 +1,33 @@
+-- What statements and rules decide for a packet (nft(8), "STATEMENTS" and "RULES").
+use Rattle.std.specs.Prelude.{List, [], ◌∷◌, Bool, true, ◌==◌, Option, None, Some, if◌then◌else◌}
+use Rattle.std.specs.List.{list_all}
+use Rattle.std.specs.Option.{option_or}
+use Rattle.fw_addr.specs.declared.reject.RejectType.{RejectType}
+use Rattle.fw_addr.specs.declared.reject.RejectType.TheVariants.{TcpReset}
+use Rattle.fw_model.specs.declared.outcome.Verdict.{Verdict}
+use Rattle.fw_model.specs.declared.outcome.Verdict.TheVariants as verdict
+use Rattle.fw_model.specs.declared.packet.Packet.{Packet}
+use Rattle.nf_eval.specs.Tests.{match_holds}
+use Rattle.nf_rules.specs.declared.rule.Rule.{Rule}
+use Rattle.nf_rules.specs.declared.rule.Stmt.{Stmt}
+use Rattle.nf_rules.specs.declared.rule.Stmt.TheVariants as stmt
+
+-- A reject with a reset answers TCP, protocol 6, alone (REJECT STATEMENT).
+abbrev pub can_reject : RejectType → Packet → Bool
+can_reject TcpReset packet = packet.proto == 6
+can_reject kind packet = true
+
+-- What a statement decides. None: evaluation goes on behind it (VERDICT STATEMENTS).
+abbrev pub decision : Packet → Stmt → Option Verdict
+decision packet stmt.Accept = Some verdict.Accept
+decision packet (stmt.Reject kind) = if can_reject kind packet then Some (verdict.Reject kind) else None
+
+-- What the first statement that decides anything decides.
+abbrev pub first_decision : Packet → List Stmt → Option Verdict
+first_decision packet [] = None
+first_decision packet (statement ∷ statements) = option_or (decision packet statement) (first_decision packet statements)
+
+-- A rule does its statements where all of its matches hold.
+abbrev pub rule_decision : Packet → Rule → Option Verdict
+rule_decision packet rule =
+    if list_all (match_holds packet) rule.matches then first_decision packet rule.stmts else None

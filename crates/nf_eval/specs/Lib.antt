@@ -1,0 +1,4 @@
+pub mod Decisions
+pub mod Evaluation
+pub mod Tests
+pub mod Verdicts
