@@ -32,9 +32,13 @@ impl<'a> Reader<'a> {
         self.take(gap)?.iter().all(|byte| *byte == 0).then_some(())
     }
 
+    fn array<const SIZE: usize>(&mut self) -> Option<[u8; SIZE]> {
+        self.take(SIZE)?.first_chunk().copied()
+    }
+
     fn number<const SIZE: usize>(&mut self) -> Option<[u8; SIZE]> {
         self.padding(SIZE)?;
-        self.take(SIZE)?.first_chunk().copied()
+        self.array()
     }
 
     fn u32(&mut self) -> Option<u32> {
@@ -75,10 +79,6 @@ impl<'a> Reader<'a> {
             b's' => Value::Str(self.text()?),
             _ => return None,
         })
-    }
-
-    fn array<const SIZE: usize>(&mut self) -> Option<[u8; SIZE]> {
-        self.take(SIZE)?.first_chunk().copied()
     }
 
     fn dict(&mut self) -> Option<Vec<(String, Value)>> {

@@ -1,6 +1,6 @@
 //! A value read and written again.
 
-ghost use Rattle.std.specs.Prelude.{◌<◌, ◌^◌, length};
+ghost use Rattle.std.specs.Prelude.{◌≡◌, ◌<◌, ◌^◌, length, take, OnOk};
 ghost use Rattle.dbus_signature.specs.Signatures.{IsOneType};
 
 use dbus_wire::{Endian, Signature, WireError, read_value, write_value};
@@ -17,6 +17,8 @@ pub fn again(
 ) -> Result<(), WireError>
     requires one { IsOneType signature.now }
     requires short { length bytes.now < 2 ^ 32 }
+    // What is written are the first of the bytes read.
+    ensures front { OnOk result (take (length out.new.items) bytes.now ≡ out.new.items) }
 {
     let (value, _) = read_value(alloc, signature, bytes, 0, Endian::Little)?;
     out.clear();
