@@ -1,5 +1,5 @@
 //! A value read at an offset, and written again at the same offset.
-ghost use Rattle.std.specs.Prelude.{◌≡◌, ◌≤◌, ◌<◌, ◌^◌, length};
+ghost use Rattle.std.specs.Prelude.{◌≡◌, ◌≤◌, ◌<◌, ◌^◌, length, IfOk};
 ghost use Rattle.dbus_signature.specs.Signatures.{IsOneType};
 
 use dbus_wire::{Endian, Signature, WireError, read_value, write_value};
@@ -18,6 +18,8 @@ pub fn again_at(
     requires one { IsOneType signature.now }
     requires short { length bytes.now < 2 ^ 32 }
     requires within { length out.old.items ≤ length bytes.now }
+    // As many bytes were written as were read.
+    ensures { IfOk result (λ end. end ≡ length out.new.items) }
 {
     let (value, end) = read_value(alloc, signature, bytes, out.as_slice().len(), endian)?;
     write_value(&value, endian, out)?;
