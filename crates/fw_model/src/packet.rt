@@ -4,14 +4,14 @@ use fw_base::{Memory, Text, TryCopy};
 use std::alloc::Global;
 
 /// Where a packet comes from: the host itself, or a link, by the name of its interface.
-#[derive(Drop)]
+#[derive(Clone, Drop)]
 pub enum Origin {
     Host,
     Link(Text),
 }
 
 /// A packet. Its ports are those of its header, where its protocol has ports.
-#[derive(Drop)]
+#[derive(Clone, Drop)]
 pub struct Packet {
     pub origin: Origin,
     pub src: Addr,
@@ -22,23 +22,13 @@ pub struct Packet {
 }
 
 impl TryCopy for Origin {
-    fn copy(&self, alloc: Global) -> Result<Origin, Memory> {
-        match self {
-            Origin::Host => Ok(Origin::Host),
-            Origin::Link(name) => Ok(Origin::Link(name.copy(alloc)?)),
-        }
+    fn copy(&self, _alloc: Global) -> Result<Origin, Memory> {
+        Ok(self.clone()?)
     }
 }
 
 impl TryCopy for Packet {
-    fn copy(&self, alloc: Global) -> Result<Packet, Memory> {
-        Ok(Packet {
-            origin: self.origin.copy(alloc)?,
-            src: self.src,
-            dst: self.dst,
-            proto: self.proto,
-            sport: self.sport,
-            dport: self.dport,
-        })
+    fn copy(&self, _alloc: Global) -> Result<Packet, Memory> {
+        Ok(self.clone()?)
     }
 }

@@ -43,24 +43,6 @@ pub struct Ruleset {
     pub chains: Seq<Chain>,
 }
 
-impl TryCopy for Hook {
-    fn copy(&self, _alloc: Global) -> Result<Hook, Memory> {
-        Ok(*self)
-    }
-}
-
-impl TryCopy for ChainKind {
-    fn copy(&self, _alloc: Global) -> Result<ChainKind, Memory> {
-        Ok(*self)
-    }
-}
-
-impl TryCopy for Base {
-    fn copy(&self, _alloc: Global) -> Result<Base, Memory> {
-        Ok(*self)
-    }
-}
-
 impl TryCopy for Chain {
     fn copy(&self, alloc: Global) -> Result<Chain, Memory> {
         Ok(Chain {
