@@ -30,13 +30,6 @@ pub struct IpSet {
     pub items: Seq<Item>,
 }
 
-
-impl TryCopy for Item {
-    fn copy(&self, _alloc: Global) -> Result<Item, Memory> {
-        Ok(*self)
-    }
-}
-
 impl TryCopy for IpSet {
     fn copy(&self, alloc: Global) -> Result<IpSet, Memory> {
         Ok(IpSet {

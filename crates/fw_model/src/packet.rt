@@ -4,7 +4,7 @@ use fw_base::{Memory, Seq, Text, TryCopy, copy_pairs};
 use std::alloc::Global;
 
 /// Where a packet comes from: the host itself, or a link, by the name of its interface.
-#[derive(Drop)]
+#[derive(Clone, Drop)]
 pub enum Origin {
     Host,
     Link(Text),
@@ -46,11 +46,8 @@ pub struct Packet {
 }
 
 impl TryCopy for Origin {
-    fn copy(&self, alloc: Global) -> Result<Origin, Memory> {
-        match self {
-            Origin::Host => Ok(Origin::Host),
-            Origin::Link(name) => Ok(Origin::Link(name.copy(alloc)?)),
-        }
+    fn copy(&self, _alloc: Global) -> Result<Origin, Memory> {
+        Ok(self.clone()?)
     }
 }
 
