@@ -1,0 +1,3 @@
+pub mod Endings
+pub mod Language
+pub mod Turns

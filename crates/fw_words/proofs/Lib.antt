@@ -1,0 +1,4 @@
+pub mod Finding
+pub mod KeyLemmas
+pub mod Quotes
+pub mod Splitting
