@@ -1,6 +1,8 @@
 pub mod GapLemmas
 pub mod GroupLemmas
+pub mod GroupsGrammar
 pub mod HexLemmas
+pub mod Ipv6Grammar
 pub mod Ipv6Laws
 pub mod LawLemmas
 pub mod MaskLaws
