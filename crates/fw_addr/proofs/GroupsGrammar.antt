@@ -1,5 +1,5 @@
 -- The groups of an IPv6 text by their pieces, and by the relation that std has for such texts, are the same.
-use Rattle.std.proofs.Common.{◌≡◌, ℕ, ◌+◌, ◌*◌, ◌/◌, ◌%◌, ◌^◌, ◌<◌, ◌≤◌, ◌⊎◌, inl, inr, Bool, true, false, cond, not, ◌&&◌, eqb, leb, List, [], ◌∷◌, ◌++◌, length, Option, Some, None, refl, sym, ap, ◌∙◌, subst, arith, lit≤, lit<, length-append, append_assoc, append-nil}
+use Rattle.std.proofs.Common.{◌≡◌, ℕ, ◌+◌, ◌*◌, ◌/◌, ◌%◌, ◌^◌, ◌<◌, ◌≤◌, inl, inr, Bool, true, false, cond, not, ◌&&◌, eqb, leb, List, [], ◌∷◌, ◌++◌, length, Option, Some, None, refl, sym, ap, ◌∙◌, subst, arith, lit≤, length-append, append_assoc, append-nil}
 use Rattle.std.specs.Char.{digit_value}
 use Rattle.std.specs.Fmt.{decimal}
 use Rattle.std.specs.List.{join_with_byte, list_all}
@@ -8,17 +8,16 @@ use Rattle.std.specs.Net.Grammar.{IsDotted, IsGroup, IsGroups, IsGroupsAfter}
 use Rattle.std.specs.Net.Text.{dotted_text}
 use Rattle.std.specs.Option.{option_map, option_or}
 use Rattle.std.specs.Str.Parse.{AllDigits, digits_value}
-use Rattle.std.proofs.lemmas.Bool.{and_parts, le-leb, leb-true, lt-ltb, ltb-true, ne_eqb, not-true, eqb-true, eq-eqb, true≢false, false≢true}
+use Rattle.std.proofs.lemmas.Bool.{and_parts, le-leb, leb-true, lt-ltb, ltb-true, ne_eqb, not-true, eq-eqb, true≢false}
 use Rattle.std.proofs.lemmas.List.Splits.{join_with_byte-slice_split}
 use Rattle.std.proofs.lemmas.Option.{option_and_then_some}
 use Rattle.fw_text.specs.Number.{number, number_to}
 use Rattle.fw_text.specs.Pieces.{pieces}
 use Rattle.fw_text.specs.Steps.{◌>>=◌}
-use Rattle.fw_addr.specs.Addresses.{group, groups, ipv4, last_groups, octets, one_group, side, two_groups}
+use Rattle.fw_addr.specs.Addresses.{group, groups, ipv4, last_groups, octets, side, two_groups}
 use Rattle.fw_addr.specs.Hexadecimal.{is_hex}
 use Rattle.fw_addr.proofs.LawLemmas.{AllLack, Lacks, ReadsDecimals, decimal_lacks, digits_lack, lacks_join, number_to-decimal, pieces_join, pieces_last}
 use Rattle.fw_addr.proofs.PieceLemmas.{some_piece}
-use Rattle.fw_addr.proofs.GroupLemmas.{side_pieces}
 
 -- one group
 all_hex : (text : List ℕ) → AllDigits 16 text → list_all is_hex text ≡ true
@@ -210,6 +209,11 @@ spelled reads with_ipv4 value values text is =
 some_joined : (first : List ℕ) (others : List (List ℕ)) → 0 < length first → 0 < length (join_with_byte 58 (first ∷ others))
 some_joined first [] some = some
 some_joined first (next ∷ others) some = omega (arith, some, length-append first (58 ∷ join_with_byte 58 (next ∷ others)))
+
+-- a text that isn't empty has the groups of its pieces
+side_pieces : (last : List ℕ → Option (List ℕ)) (text : List ℕ) → 0 < length text → side last text ≡ groups last (pieces 58 text)
+side_pieces last [] some = absurd (omega arith)
+side_pieces last (byte ∷ text) some = refl
 
 pub side_some : ReadsDecimals → (with_ipv4 : Bool) (values text : List ℕ) → IsGroups with_ipv4 text values → side (last_groups with_ipv4) text ≡ Some values
 side_some reads with_ipv4 [] text is = rw is refl

@@ -1,13 +1,15 @@
 -- The grammar of IPv6 texts is std's relation.
-use Rattle.std.proofs.Common.{◌≡◌, ℕ, ◌+◌, ◌-◌, ◌<◌, ◌≤◌, ◌↔◌, ◌⊎◌, inl, inr, Bool, true, false, cond, ◌&&◌, eqb, ltb, List, [], ◌∷◌, ◌++◌, length, get_or, replicate, Option, Some, None, refl, sym, ap, ◌∙◌, subst, arith, append_assoc}
+use Rattle.std.proofs.Common.{◌≡◌, ℕ, ◌+◌, ◌-◌, ◌<◌, inl, inr, Bool, true, false, cond, ◌&&◌, eqb, ltb, List, [], ◌∷◌, ◌++◌, length, get_or, replicate, Option, Some, None, refl, sym, ap, ◌∙◌, subst, arith, append_assoc}
+use Rattle.std.specs.Int.Digits.{number_from_digits}
 use Rattle.std.specs.List.{join_with_byte}
-use Rattle.std.specs.Net.Grammar.{IsColonHex, IsElided, IsGroups}
+use Rattle.std.specs.Net.Addr.{ipv6_segments}
+use Rattle.std.specs.Net.Grammar.{IsColonHex, IsGroups, IsIpv6Text}
 use Rattle.std.specs.Option.{option_map}
+use Rattle.std.specs.declared.net.ipv6_addr.Ipv6Addr.{Ipv6Addr}
 use Rattle.std.proofs.lemmas.Bool.{and_left, and_parts, eq-eqb, eqb-true, lt-ltb, ltb-true, true≢false}
 use Rattle.std.proofs.lemmas.Option.{option_and_then_some}
-use Rattle.fw_text.specs.Steps.{◌>>=◌}
-use Rattle.fw_addr.specs.Addresses.{around_gap, eight, filled, groups_around, last_groups, side}
-use Rattle.fw_addr.proofs.GroupsGrammar.{OnlyDecimals, Spelled, Whole, side_is, side_some, spelled}
+use Rattle.fw_addr.specs.Addresses.{around_gap, eight, filled, groups_around, ipv6_groups, last_groups, side}
+use Rattle.fw_addr.proofs.GroupsGrammar.{OnlyDecimals, Whole, side_is, side_some, spelled}
 use Rattle.fw_addr.proofs.LawLemmas.{Lacks, ReadsDecimals}
 
 -- no `::` stands in a text, and no `:` at its end
@@ -123,3 +125,14 @@ colon_hex_is only text values found = by_gap (around_gap text) refl found
         option_and_then_some _ (side (last_groups false) sides.0) values some λ head is kept.
         option_and_then_some _ (side (last_groups true) sides.1) values kept λ tail is_tail all.
         by_room sides gap head tail (side_is only false sides.0 head is) (side_is only true sides.1 tail is_tail) (ltb (length head + length tail) 8) refl all
+
+-- what reading by std's relation finds
+pub found_groups : ReadsDecimals → (text : List ℕ) (address : Ipv6Addr) → IsIpv6Text text address → option_map (number_from_digits 65536) (ipv6_groups text) ≡ Some (number_from_digits 65536 (ipv6_segments address))
+found_groups reads text address is = ap (option_map (number_from_digits 65536)) (colon_hex_some reads text (ipv6_segments address) is)
+
+pub found_none : OnlyDecimals → (text : List ℕ) → ((address : Ipv6Addr) → ¬ (IsIpv6Text text address)) → option_map (number_from_digits 65536) (ipv6_groups text) ≡ None
+found_none only text none = by_groups (ipv6_groups text) refl
+  where
+    by_groups : (found : Option (List ℕ)) → ipv6_groups text ≡ found → option_map (number_from_digits 65536) found ≡ None
+    by_groups None is = refl
+    by_groups (Some values) is = absurd (none (record { segments = values }) (colon_hex_is only text values is))

@@ -1,5 +1,3 @@
-pub mod GapLemmas
-pub mod GroupLemmas
 pub mod GroupsGrammar
 pub mod HexLemmas
 pub mod Ipv6Grammar
@@ -10,5 +8,3 @@ pub mod NetLaws
 pub mod NetLemmas
 pub mod PieceLemmas
 pub mod PowerLemmas
-pub mod RunLemmas
-pub mod TextLemmas

@@ -99,7 +99,3 @@ ipv6 text = option_map (number_from_digits 65536) (ipv6_groups text)
 -- an address is an IPv4 text, or else an IPv6 text
 abbrev pub address : List ℕ → Option Addr
 address text = option_or (option_map V4 (ipv4 text)) (option_map V6 (ipv6 text))
-
--- no more than eight groups: more are no address, whatever stands beside them
-abbrev pub short : Option (List ℕ) → Option (List ℕ)
-short found = found >>= (λ values. if nat_le (length values) 8 then Some values else None)

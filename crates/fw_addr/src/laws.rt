@@ -2,7 +2,7 @@
 ghost use Rattle.std.specs.Prelude.{◌≡◌, ℕ, ◌-◌, ◌<◌, ◌≤◌, ◌^◌, ◌↔◌, List, IsTrue, Some};
 ghost use Rattle.std.specs.Net.Grammar.{IsColonHex};
 ghost use Rattle.fw_addr.specs.Addresses.{address, ipv6_groups};
-ghost use Rattle.fw_addr.specs.Canonical.{address_text};
+ghost use Rattle.fw_addr.specs.Canonical.{LeavesLongestOut, address_text, groups_of, ipv6_text};
 ghost use Rattle.fw_addr.specs.Hardware.{mac, mac_text};
 ghost use Rattle.fw_addr.specs.Nets.{mask_length, net, net_text};
 ghost use Rattle.fw_addr.specs.Protocols.{port_proto, port_proto_text, proto, proto_text};
@@ -58,3 +58,8 @@ pub fn ipv6_texts_are_those_of_std()
 {
     decimal_is_read();
 }
+
+/// The text of an IPv6 address leaves out the longest run of zero groups, and of equals the first.
+pub fn longest_runs_are_shortened()
+    ensures { (n : ℕ) → LeavesLongestOut (groups_of n) (ipv6_text n) }
+{}
