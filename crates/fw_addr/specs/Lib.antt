@@ -4,6 +4,7 @@ pub mod Hardware
 pub mod Hexadecimal
 pub mod Icmp
 pub mod Interfaces
+pub mod Names
 pub mod Nets
 pub mod Ports
 pub mod Protocols

@@ -1,16 +1,17 @@
 //! IP addresses and their texts.
-ghost use Rattle.std.specs.Prelude.{◌≡◌, IfOk};
+ghost use Rattle.std.specs.Prelude.{◌≡◌, ◌<◌, ◌^◌, IfOk, Some};
 ghost use Rattle.std.specs.Option.{ok_or};
 ghost use Rattle.fw_addr.specs.Addresses.{address};
 ghost use Rattle.fw_addr.specs.Canonical.{address_text};
-ghost use Rattle.fw_addr.specs.Subnets.{family, width};
+ghost use Rattle.fw_addr.specs.Subnets.{bits, family, width};
 
-use super::ipv4::{print_ipv4, read_ipv4};
-use super::ipv6::read_ipv6;
-use super::ipv6_text::print_ipv6;
+use super::ipv4::{Dotted, read_ipv4};
+use super::ipv6::{ColonHex, read_ipv6};
+use super::laws::printed_addresses_are_read;
 use super::{AddrError, Family};
 use fw_base::{Memory, Text};
 use std::alloc::Global;
+use std::fmt;
 
 /// An IPv4 or IPv6 address as a number, the first octet the most significant.
 #[derive(Clone, Copy, Debug, PartialEq, Eq)]
@@ -41,6 +42,20 @@ impl Addr {
     }
 }
 
+impl fmt::Display for Addr {
+    ghost use Rattle.std.specs.Prelude.{Some};
+    ghost use Rattle.fw_addr.specs.Canonical.{address_text};
+
+    ghost output = { λ addr. Some (address_text addr) };
+
+    fn fmt<W: fmt::Write>(&self, f: &mut fmt::Formatter<W>) -> fmt::Result {
+        match *self {
+            Addr::V4(number) => f.write(Dotted(number)),
+            Addr::V6(number) => f.write(ColonHex(number)),
+        }
+    }
+}
+
 /// Reads an address: an IPv4 text, which is four decimal numbers joined by dots, or an IPv6 text by RFC 4291,
 /// section 2.2, without a zone index.
 pub fn read_addr(text: &str) -> Result<Addr, AddrError>
@@ -62,10 +77,21 @@ pub fn parse_addr(text: &[u8]) -> Option<Addr>
 
 /// The address as a text: four decimal numbers, or the form of RFC 5952, section 4, without an IPv4 part.
 pub fn print_addr(alloc: Global, addr: &Addr) -> Result<Text, Memory>
-    ensures { IfOk result (λ text. text ≡ address_text addr.now) }
+    ensures text { IfOk result (λ text. text ≡ address_text addr.now) }
+    ensures read_back { IfOk result (λ text. address text ≡ Some addr.now) }
 {
-    match *addr {
-        Addr::V4(number) => print_ipv4(alloc, number),
-        Addr::V6(number) => print_ipv6(alloc, number),
+    printed_addresses_are_read();
+    bits_fit(*addr);
+    let string = format!(in alloc; "{addr}")?;
+    Ok(Text::from_string(string))
+}
+
+/// An address has no more bits than its width. This is a law: its clause is all of it.
+pub fn bits_fit(addr: Addr)
+    ensures { bits addr < 2 ^ width addr }
+{
+    match addr {
+        Addr::V4(number) => prove!(number <= u32::MAX),
+        Addr::V6(number) => prove!(number <= u128::MAX),
     }
 }

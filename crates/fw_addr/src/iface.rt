@@ -8,6 +8,7 @@ use super::AddrError;
 use arrayvec::ArrayString;
 use fw_base::{Memory, TryCopy};
 use std::alloc::Global;
+use std::fmt;
 use std::marker::Model;
 
 /// An interface's name, or a prefix and `+`, which stands for every name with that prefix. Contracts see its bytes.
@@ -45,6 +46,36 @@ impl Iface {
             Some(front) => name.as_bytes().starts_with(front),
             None => name.as_bytes() == entry,
         }
+    }
+}
+
+impl PartialEq for Iface {
+    ghost use Rattle.std.specs.Prelude.{nat_eq};
+    ghost use Rattle.std.specs.Cmp.{partial_equiv_from_equiv};
+    ghost use Rattle.std.specs.Cmp.Lexicographic.{pointwise, nat_list_eq_equiv};
+
+    ghost eq = { pointwise nat_eq };
+
+    ghost laws = { partial_equiv_from_equiv nat_list_eq_equiv };
+
+    fn eq(&self, other: &Iface) -> bool {
+        self.as_str() == other.as_str()
+    }
+}
+
+impl Eq for Iface {
+    ghost use Rattle.std.specs.Cmp.Lexicographic.{nat_list_eq_equiv};
+
+    ghost laws = { nat_list_eq_equiv };
+}
+
+impl fmt::Display for Iface {
+    ghost use Rattle.std.specs.Prelude.{Some};
+
+    ghost output = { λ iface. Some iface };
+
+    fn fmt<W: fmt::Write>(&self, f: &mut fmt::Formatter<W>) -> fmt::Result {
+        f.write_str(self.as_str())
     }
 }
 

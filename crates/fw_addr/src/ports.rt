@@ -1,12 +1,14 @@
 //! Ranges of ports, and the protocols that have ports.
-ghost use Rattle.std.specs.Prelude.{◌≡◌, ◌≤◌, IfOk, IfSome};
+ghost use Rattle.std.specs.Prelude.{◌≡◌, ◌≤◌, IfOk, IfSome, Some};
 ghost use Rattle.std.specs.Option.{ok_or};
 ghost use Rattle.fw_addr.specs.Ports.{port, port_range, ports_text, in_range};
 
 use super::AddrError;
+use super::laws::printed_ports_are_read;
 use fw_base::{Memory, Text};
 use fw_text::{cut, read_number};
 use std::alloc::Global;
+use std::fmt;
 use std::marker::Model;
 
 /// A range of ports, both ends among them. Its first port isn't above its last.
@@ -35,6 +37,22 @@ impl PortRange {
         ensures { result ≡ in_range self.now port }
     {
         self.first <= port && port <= self.last
+    }
+}
+
+impl fmt::Display for PortRange {
+    ghost use Rattle.std.specs.Prelude.{Some};
+    ghost use Rattle.fw_addr.specs.Ports.{ports_text};
+
+    ghost output = { λ range. Some (ports_text range) };
+
+    fn fmt<W: fmt::Write>(&self, f: &mut fmt::Formatter<W>) -> fmt::Result {
+        let PortRange { first, last } = *self;
+        if first == last {
+            write!(f, "{first}")
+        } else {
+            write!(f, "{first}-{last}")
+        }
     }
 }
 
@@ -74,13 +92,11 @@ fn read_port(text: &[u8]) -> Option<u16>
 
 /// The range as a text: its ends joined by `-`, or one number where they are equal.
 pub fn print_ports(alloc: Global, range: &PortRange) -> Result<Text, Memory>
-    ensures { IfOk result (λ text. text ≡ ports_text range.now) }
+    ensures text { IfOk result (λ text. text ≡ ports_text range.now) }
+    ensures read_back { IfOk result (λ text. port_range text ≡ Some range.now) }
 {
-    let PortRange { first, last } = *range;
-    let string = if first == last {
-        format!(in alloc; "{first}")?
-    } else {
-        format!(in alloc; "{first}-{last}")?
-    };
+    printed_ports_are_read();
+    let _last = range.last;
+    let string = format!(in alloc; "{range}")?;
     Ok(Text::from_string(string))
 }

@@ -1,13 +1,15 @@
 //! IP protocols: those with ports, and all of them by number.
-ghost use Rattle.std.specs.Prelude.{◌≡◌, IfOk};
+ghost use Rattle.std.specs.Prelude.{◌≡◌, IfOk, Some};
 ghost use Rattle.std.specs.Option.{ok_or, option_copied};
 ghost use Rattle.fw_text.specs.Names.{name_of, named};
 ghost use Rattle.fw_addr.specs.Protocols.{port_proto, port_proto_text, proto, proto_names, proto_number, proto_text};
 
 use super::AddrError;
+use super::laws::printed_protocols_are_read;
 use fw_base::{Memory, Text};
 use fw_text::read_number;
 use std::alloc::Global;
+use std::fmt;
 use std::marker::Model;
 
 /// A transport protocol that has ports.
@@ -45,6 +47,17 @@ impl PortProto {
     }
 }
 
+impl fmt::Display for PortProto {
+    ghost use Rattle.std.specs.Prelude.{Some};
+    ghost use Rattle.fw_addr.specs.Protocols.{port_proto_text};
+
+    ghost output = { λ proto. Some (port_proto_text proto) };
+
+    fn fmt<W: fmt::Write>(&self, f: &mut fmt::Formatter<W>) -> fmt::Result {
+        f.write_str(self.as_str())
+    }
+}
+
 /// An IP protocol by its number in IANA's registry. Contracts see the number.
 #[derive(Clone, Copy, Debug, PartialEq, Eq)]
 pub struct Proto(pub u8);
@@ -57,6 +70,20 @@ impl Model for Proto {
     ghost view = { λ proto. proto.0 };
 
     ghost inverse = { λ number. record { 0 = number } };
+}
+
+impl fmt::Display for Proto {
+    ghost use Rattle.std.specs.Prelude.{Some};
+    ghost use Rattle.fw_addr.specs.Protocols.{proto_text};
+
+    ghost output = { λ proto. Some (proto_text proto) };
+
+    fn fmt<W: fmt::Write>(&self, f: &mut fmt::Formatter<W>) -> fmt::Result {
+        match name_of(self.0) {
+            Some(name) => f.write_str(name),
+            None => f.write(self.0),
+        }
+    }
 }
 
 /// Reads the name of a protocol that has ports: `tcp`, `udp`, `sctp` or `dccp`.
@@ -104,14 +131,14 @@ fn number_named(text: &str) -> Option<u8>
 }
 
 /// The protocol as a text: its name where there is one, else its number.
-pub fn print_proto(alloc: Global, proto: &Proto) -> Result<Text, Memory>
-    ensures { IfOk result (λ text. text ≡ proto_text proto.now) }
+pub fn print_proto(alloc: Global, protocol: &Proto) -> Result<Text, Memory>
+    ensures text { IfOk result (λ text. text ≡ proto_text protocol.now) }
+    ensures read_back { IfOk result (λ text. proto text ≡ Some protocol.now) }
 {
-    let number = proto.0;
-    match name_of(number) {
-        Some(name) => Text::of(alloc, name),
-        None => Ok(Text::from_string(format!(in alloc; "{number}")?)),
-    }
+    printed_protocols_are_read();
+    let _number = protocol.0;
+    let string = format!(in alloc; "{protocol}")?;
+    Ok(Text::from_string(string))
 }
 
 fn name_of(number: u8) -> Option<&'static str>

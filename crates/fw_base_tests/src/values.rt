@@ -20,7 +20,7 @@ fn values_are_made_copied_and_compared(rt: HostRuntime) -> Result<(), Fail> {
 }
 
 #[test]
-fn many_plain_items_are_copied(rt: HostRuntime) -> Result<(), Fail> {
+fn much_is_copied(rt: HostRuntime) -> Result<(), Fail> {
     let alloc = rt.alloc();
     let mut ports = Seq::new(alloc);
     for port in 0..5_000u16 {
@@ -30,6 +30,8 @@ fn many_plain_items_are_copied(rt: HostRuntime) -> Result<(), Fail> {
     for _ in 0..2_000u16 {
         lists.push(Seq::<u16>::new(alloc))?;
     }
+    let long = Text::from_string(String::from_utf8(vec![in alloc; b'x'; 5_000]?)?);
+    assert!(rt; long.copy(alloc)? == long);
     assert!(rt; ports.copy(alloc)? == ports);
     assert!(rt; lists.copy(alloc)? == lists);
     Ok(())

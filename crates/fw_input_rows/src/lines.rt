@@ -1,5 +1,5 @@
-use super::{Advance, LineReader};
 use fw_base::ListSource;
+use fw_input::{Advance, LineReader};
 use std::alloc::{AllocError, Global};
 use std::test::Fail;
 
@@ -79,5 +79,25 @@ fn inputs_are_cut_into_lines(rt: HostRuntime) -> Result<(), Fail> {
         let trace = trace_of(rt.alloc(), row)?;
         assert_eq!(rt; trace.as_slice(), row.trace);
     }
+    Ok(())
+}
+
+#[test]
+fn long_lines_are_read_to_the_end(rt: HostRuntime) -> Result<(), Fail> {
+    let alloc = rt.alloc();
+    let mut input = Vec::new(alloc);
+    for _ in 0..300 {
+        for _ in 0..1_000 {
+            input.push(b'x')?;
+        }
+        input.push(b'\n')?;
+    }
+    let mut source = ListSource::new(input, 7_000, Vec::new(alloc));
+    let mut reader = LineReader::new(alloc, 1_000, 400_000);
+    for _ in 0..300 {
+        assert!(rt; reader.advance(&mut source) == Advance::Line);
+        assert!(rt; reader.line().len() == 1_000);
+    }
+    assert!(rt; reader.advance(&mut source) == Advance::End);
     Ok(())
 }
