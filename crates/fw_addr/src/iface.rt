@@ -7,11 +7,11 @@ ghost use Rattle.fw_addr.specs.Interfaces.{interface, is_interface, is_interface
 use super::AddrError;
 use arrayvec::ArrayString;
 use fw_base::{Memory, TryCopy};
-use std::alloc::Global;
+use std::alloc::{AllocError, Global};
 use std::marker::Model;
 
 /// An interface's name, or a prefix and `+`, which stands for every name with that prefix. Contracts see its bytes.
-#[derive(Clone, Debug, Drop)]
+#[derive(Debug, Drop)]
 pub struct Iface {
     name: ArrayString<15>,
 }
@@ -46,6 +46,34 @@ impl Iface {
             None => name.as_bytes() == entry,
         }
     }
+}
+
+impl Clone for Iface {
+    ghost is_clone = { λ iface copied. copied ≡ iface };
+
+    fn clone(&self) -> Result<Iface, AllocError> {
+        Ok(Iface { name: self.name })
+    }
+}
+
+impl PartialEq for Iface {
+    ghost use Rattle.std.specs.Prelude.{nat_eq};
+    ghost use Rattle.std.specs.Cmp.{partial_equiv_from_equiv};
+    ghost use Rattle.std.specs.Cmp.Lexicographic.{pointwise, nat_list_eq_equiv};
+
+    ghost eq = { pointwise nat_eq };
+
+    ghost laws = { partial_equiv_from_equiv nat_list_eq_equiv };
+
+    fn eq(&self, other: &Iface) -> bool {
+        self.as_str() == other.as_str()
+    }
+}
+
+impl Eq for Iface {
+    ghost use Rattle.std.specs.Cmp.Lexicographic.{nat_list_eq_equiv};
+
+    ghost laws = { nat_list_eq_equiv };
 }
 
 impl TryCopy for Iface {

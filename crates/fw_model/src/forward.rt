@@ -1,8 +1,6 @@
 //! Ports that are forwarded.
 use super::Port;
 use fw_addr::Addr;
-use fw_base::{Memory, TryCopy};
-use std::alloc::Global;
 
 /// A port whose packets go to another port, to another host, or both (firewalld.zone(5), `forward-port`).
 #[derive(Clone, Copy, Debug, PartialEq, Eq)]
@@ -12,10 +10,4 @@ pub struct Forward {
     pub to_port: Option<u16>,
     /// The host that they go to. None: this host.
     pub to_addr: Option<Addr>,
-}
-
-impl TryCopy for Forward {
-    fn copy(&self, _alloc: Global) -> Result<Forward, Memory> {
-        Ok(*self)
-    }
 }
