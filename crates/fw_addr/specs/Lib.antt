@@ -4,8 +4,10 @@ pub mod Hardware
 pub mod Hexadecimal
 pub mod Icmp
 pub mod Interfaces
+pub mod Names
 pub mod Nets
 pub mod Ports
 pub mod Protocols
 pub mod Subnets
+pub mod Targets
 pub mod WellFormed

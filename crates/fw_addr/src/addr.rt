@@ -5,12 +5,13 @@ ghost use Rattle.fw_addr.specs.Addresses.{address};
 ghost use Rattle.fw_addr.specs.Canonical.{address_text};
 ghost use Rattle.fw_addr.specs.Subnets.{family, width};
 
-use super::ipv4::{print_ipv4, read_ipv4};
+use super::ipv4::{Dotted, read_ipv4};
 use super::ipv6::read_ipv6;
-use super::ipv6_text::print_ipv6;
+use super::ipv6_text::ColonHex;
 use super::{AddrError, Family};
 use fw_base::{Memory, Text};
 use std::alloc::Global;
+use std::fmt;
 
 /// An IPv4 or IPv6 address as a number, the first octet the most significant.
 #[derive(Clone, Copy, Debug, PartialEq, Eq)]
@@ -41,6 +42,20 @@ impl Addr {
     }
 }
 
+impl fmt::Display for Addr {
+    ghost use Rattle.std.specs.Prelude.{Some};
+    ghost use Rattle.fw_addr.specs.Canonical.{address_text};
+
+    ghost output = { λ addr. Some (address_text addr) };
+
+    fn fmt<W: fmt::Write>(&self, f: &mut fmt::Formatter<W>) -> fmt::Result {
+        match *self {
+            Addr::V4(number) => f.write(Dotted(number)),
+            Addr::V6(number) => f.write(ColonHex(number)),
+        }
+    }
+}
+
 /// Reads an address: an IPv4 text, which is four decimal numbers joined by dots, or an IPv6 text by RFC 4291,
 /// section 2.2, without a zone index.
 pub fn read_addr(text: &str) -> Result<Addr, AddrError>
@@ -64,8 +79,6 @@ pub fn parse_addr(text: &[u8]) -> Option<Addr>
 pub fn print_addr(alloc: Global, addr: &Addr) -> Result<Text, Memory>
     ensures { IfOk result (λ text. text ≡ address_text addr.now) }
 {
-    match *addr {
-        Addr::V4(number) => print_ipv4(alloc, number),
-        Addr::V6(number) => print_ipv6(alloc, number),
-    }
+    let string = format!(in alloc; "{addr}")?;
+    Ok(Text::from_string(string))
 }

@@ -2,7 +2,6 @@
 ghost use Rattle.std.specs.Prelude.{◌≡◌};
 ghost use Rattle.fw_addr.specs.Icmp.{icmp};
 
-
 /// The numbers that an ICMP type of one name has in ICMP and in ICMPv6, where it has one there.
 #[derive(Clone, Copy, Debug, PartialEq, Eq)]
 pub struct IcmpNumbers {

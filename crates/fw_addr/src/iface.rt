@@ -8,6 +8,7 @@ use super::AddrError;
 use arrayvec::ArrayString;
 use fw_base::{Memory, TryCopy};
 use std::alloc::{AllocError, Global};
+use std::fmt;
 use std::marker::Model;
 
 /// An interface's name, or a prefix and `+`, which stands for every name with that prefix. Contracts see its bytes.
@@ -74,6 +75,16 @@ impl Eq for Iface {
     ghost use Rattle.std.specs.Cmp.Lexicographic.{nat_list_eq_equiv};
 
     ghost laws = { nat_list_eq_equiv };
+}
+
+impl fmt::Display for Iface {
+    ghost use Rattle.std.specs.Prelude.{Some};
+
+    ghost output = { λ iface. Some iface };
+
+    fn fmt<W: fmt::Write>(&self, f: &mut fmt::Formatter<W>) -> fmt::Result {
+        f.write_str(self.as_str())
+    }
 }
 
 impl TryCopy for Iface {

@@ -1,12 +1,10 @@
 //! The texts of IPv4 addresses.
-ghost use Rattle.std.specs.Prelude.{◌≡◌, ◌≤◌, IfOk, IfSome};
+ghost use Rattle.std.specs.Prelude.{◌≡◌, ◌≤◌, IfSome};
 ghost use Rattle.fw_text.specs.Number.{number_to};
 ghost use Rattle.fw_addr.specs.Addresses.{ipv4};
-ghost use Rattle.fw_addr.specs.Canonical.{ipv4_text};
 
-use fw_base::{Memory, Text};
 use fw_text::{cut, read_number};
-use std::alloc::Global;
+use std::fmt;
 
 /// Reads four decimal numbers up to 255 without leading zeros, joined by dots.
 pub fn read_ipv4(text: &[u8]) -> Option<u32>
@@ -34,14 +32,22 @@ fn read_octet(text: &[u8]) -> Option<u32>
     Some(octet as u32)
 }
 
-/// The address as four decimal numbers joined by dots.
-pub fn print_ipv4(alloc: Global, number: u32) -> Result<Text, Memory>
-    ensures { IfOk result (λ text. text ≡ ipv4_text number) }
-{
-    let a = number >> 24;
-    let b = (number >> 16) % 256;
-    let c = (number >> 8) % 256;
-    let d = number % 256;
-    let string = format!(in alloc; "{a}.{b}.{c}.{d}")?;
-    Ok(Text::from_string(string))
+/// The text of an address: four decimal numbers joined by dots.
+#[derive(Clone, Copy)]
+pub struct Dotted(pub u32);
+
+impl fmt::Display for Dotted {
+    ghost use Rattle.std.specs.Prelude.{Some};
+    ghost use Rattle.fw_addr.specs.Canonical.{ipv4_text};
+
+    ghost output = { λ dotted. Some (ipv4_text dotted.0) };
+
+    fn fmt<W: fmt::Write>(&self, f: &mut fmt::Formatter<W>) -> fmt::Result {
+        let number = self.0;
+        let a = number >> 24;
+        let b = (number >> 16) % 256;
+        let c = (number >> 8) % 256;
+        let d = number % 256;
+        write!(f, "{a}.{b}.{c}.{d}")
+    }
 }

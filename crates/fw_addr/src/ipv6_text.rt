@@ -1,11 +1,8 @@
 //! Printing IPv6 addresses in the canonical form of RFC 5952.
-ghost use Rattle.std.specs.Prelude.{◌≡◌, ◌+◌, ◌≤◌, ◌++◌, find, IfOk, IfSome, OnOk};
-ghost use Rattle.std.specs.String.{string_bytes};
-ghost use Rattle.fw_addr.specs.Canonical.{groups_of, ipv6_text, is_zero, joined, longest, shortened};
+ghost use Rattle.std.specs.Prelude.{◌≡◌, ◌+◌, ◌≤◌, find, IfSome, Some};
+ghost use Rattle.fw_addr.specs.Canonical.{groups_of, ipv6_text, is_zero, joined, longest};
 
-use super::hexadecimal::push_hex;
-use fw_base::{Memory, Text};
-use std::alloc::Global;
+use std::fmt;
 
 /// Where a run of two or more groups may stand, and how many groups it has: the longest first, and of equals
 /// the first one first.
@@ -40,18 +37,44 @@ const RUNS: [(usize, usize); 28] = [
     (6, 2),
 ];
 
-/// The most bytes that such a text has.
-const LONGEST_TEXT: usize = 39;
-
-/// The address in lower-case hexadecimal groups without leading zeros, with `::` for the longest run of at
+/// The text of an address: lower-case hexadecimal groups without leading zeros, with `::` for the longest run of at
 /// least two zero groups, and of equals for the first.
-pub fn print_ipv6(alloc: Global, number: u128) -> Result<Text, Memory>
-    ensures { IfOk result (λ text. text ≡ ipv6_text number) }
-{
-    let groups = groups_of(number);
-    let mut text = String::with_capacity(alloc, LONGEST_TEXT)?;
-    push_address(&mut text, &groups)?;
-    Ok(Text::from_string(text))
+#[derive(Clone, Copy)]
+pub struct ColonHex(pub u128);
+
+impl fmt::Display for ColonHex {
+    ghost output = { λ address. Some (ipv6_text address.0) };
+
+    fn fmt<W: fmt::Write>(&self, f: &mut fmt::Formatter<W>) -> fmt::Result {
+        let groups = groups_of(self.0);
+        match longest_run(&groups) {
+            None => f.write(Joined(&groups)),
+            Some((start, count)) => {
+                let before = Joined(&groups[..start]);
+                let behind = Joined(&groups[start + count..]);
+                write!(f, "{before}::{behind}")
+            }
+        }
+    }
+}
+
+/// Groups joined by `:`.
+#[derive(Clone, Copy)]
+struct Joined<'a>(&'a [u16]);
+
+impl fmt::Display for Joined<'_> {
+    ghost output = { λ groups. Some (joined groups.0.now) };
+
+    fn fmt<W: fmt::Write>(&self, f: &mut fmt::Formatter<W>) -> fmt::Result {
+        let Some((first, others)) = self.0.split_first() else {
+            return Ok(());
+        };
+        write!(f, "{first:x}")?;
+        for group in others {
+            write!(f, ":{group:x}")?;
+        }
+        Ok(())
+    }
 }
 
 fn groups_of(number: u128) -> [u16; 8]
@@ -67,19 +90,6 @@ fn groups_of(number: u128) -> [u16; 8]
         ((number >> 16) % 65536) as u16,
         (number % 65536) as u16,
     ]
-}
-
-fn push_address(text: &mut String, groups: &[u16; 8]) -> Result<(), Memory>
-    ensures { OnOk result (string_bytes text.new ≡ string_bytes text.old ++ shortened groups.now (longest groups.now)) }
-{
-    match longest_run(groups) {
-        None => push_groups(text, groups),
-        Some((start, count)) => {
-            push_groups(text, &groups[..start])?;
-            text.push_str("::")?;
-            push_groups(text, &groups[start + count..])
-        }
-    }
 }
 
 /// The longest run of at least two zero groups, and of equals the first.
@@ -113,19 +123,4 @@ fn is_zero(groups: &[u16; 8], run: (usize, usize)) -> bool
         .skip(start)
         .take(count)
         .all(|group| *group == 0)
-}
-
-/// Appends groups joined by `:`.
-fn push_groups(text: &mut String, groups: &[u16]) -> Result<(), Memory>
-    ensures { OnOk result (string_bytes text.new ≡ string_bytes text.old ++ joined groups.now) }
-{
-    let Some((first, others)) = groups.split_first() else {
-        return Ok(());
-    };
-    push_hex(text, *first)?;
-    for group in others {
-        text.push(':')?;
-        push_hex(text, *group)?;
-    }
-    Ok(())
 }

@@ -21,8 +21,6 @@ mod packet;
 mod ports;
 mod proto;
 mod reject;
-#[cfg(test)]
-mod tests;
 
 pub use addr::{Addr, print_addr, read_addr};
 pub use dnat::Dnat;

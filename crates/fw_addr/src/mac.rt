@@ -1,19 +1,15 @@
 //! Hardware addresses of Ethernet.
-ghost use Rattle.std.specs.Prelude.{◌≡◌, ◌≤◌, ◌∷◌, ◌++◌, IfOk, IfSome, OnOk};
+ghost use Rattle.std.specs.Prelude.{◌≡◌, ◌≤◌, IfOk, IfSome};
 ghost use Rattle.std.specs.Option.{ok_or};
-ghost use Rattle.std.specs.String.{string_bytes};
-ghost use Rattle.fw_addr.specs.Hexadecimal.{hex_byte};
 ghost use Rattle.fw_addr.specs.Hardware.{hex_octet, mac, mac_text};
 
 use super::AddrError;
-use super::hexadecimal::{push_octet, read_hex};
+use super::hexadecimal::read_hex;
 use fw_base::{Memory, Text};
 use fw_text::cut;
 use std::alloc::Global;
+use std::fmt;
 use std::marker::Model;
-
-/// How many bytes the text of an address has.
-const TEXT_LEN: usize = 17;
 
 /// A hardware address as a number below 2^48, its first octet the most significant. Contracts see the number.
 #[derive(Clone, Copy, Debug, PartialEq, Eq)]
@@ -70,25 +66,45 @@ fn read_octet(text: &[u8]) -> Option<u64>
     Some(u64::from(octet))
 }
 
+impl fmt::Display for Mac {
+    ghost use Rattle.std.specs.Prelude.{Some};
+    ghost use Rattle.fw_addr.specs.Hardware.{mac_text};
+
+    ghost output = { λ mac. Some (mac_text mac) };
+
+    fn fmt<W: fmt::Write>(&self, f: &mut fmt::Formatter<W>) -> fmt::Result {
+        let number = self.0;
+        let a = Octet((number >> 40) as u8);
+        let b = Octet(((number >> 32) % 256) as u8);
+        let c = Octet(((number >> 24) % 256) as u8);
+        let d = Octet(((number >> 16) % 256) as u8);
+        let e = Octet(((number >> 8) % 256) as u8);
+        let last = Octet((number % 256) as u8);
+        write!(f, "{a}:{b}:{c}:{d}:{e}:{last}")
+    }
+}
+
+/// An octet in two lower-case digits.
+#[derive(Clone, Copy)]
+struct Octet(u8);
+
+impl fmt::Display for Octet {
+    ghost use Rattle.std.specs.Prelude.{Some};
+    ghost use Rattle.fw_addr.specs.Hexadecimal.{hex_byte};
+
+    ghost output = { λ octet. Some (hex_byte octet.0) };
+
+    #[tactic(auto, using(std::proofs::lemmas::Fmt::hex_byte))]
+    fn fmt<W: fmt::Write>(&self, f: &mut fmt::Formatter<W>) -> fmt::Result {
+        let octet = self.0;
+        write!(f, "{octet:02x}")
+    }
+}
+
 /// The address as a text: six octets of two digits in lower case, joined by `:`.
 pub fn print_mac(alloc: Global, mac: &Mac) -> Result<Text, Memory>
     ensures { IfOk result (λ text. text ≡ mac_text mac.now) }
 {
-    let number = mac.0;
-    let mut text = String::with_capacity(alloc, TEXT_LEN)?;
-    push_octet(&mut text, (number >> 40) as u8)?;
-    push_next(&mut text, ((number >> 32) % 256) as u8)?;
-    push_next(&mut text, ((number >> 24) % 256) as u8)?;
-    push_next(&mut text, ((number >> 16) % 256) as u8)?;
-    push_next(&mut text, ((number >> 8) % 256) as u8)?;
-    push_next(&mut text, (number % 256) as u8)?;
-    Ok(Text::from_string(text))
-}
-
-/// Appends a `:` and an octet in two digits.
-fn push_next(text: &mut String, octet: u8) -> Result<(), Memory>
-    ensures { OnOk result (string_bytes text.new ≡ string_bytes text.old ++ 58 ∷ hex_byte octet) }
-{
-    text.push(':')?;
-    push_octet(text, octet)
+    let string = format!(in alloc; "{mac}")?;
+    Ok(Text::from_string(string))
 }

@@ -4,12 +4,13 @@ ghost use Rattle.std.specs.Option.{ok_or};
 ghost use Rattle.fw_addr.specs.Nets.{net, net_text, mask_length, prefix_length};
 ghost use Rattle.fw_addr.specs.Subnets.{SharesBits, SharesPrefix, cleared, in_net, leading, subnet, width};
 
-use super::addr::{parse_addr, print_addr};
+use super::addr::parse_addr;
 use super::ipv4::read_ipv4;
 use super::{Addr, AddrError};
 use fw_base::{Memory, Text};
 use fw_text::{cut, read_number};
 use std::alloc::Global;
+use std::fmt;
 use std::marker::Model;
 
 /// A net: the address of its first host and the length of its prefix. The bits behind the prefix are 0.
@@ -76,6 +77,22 @@ impl Net {
             (Addr::V4(first), Addr::V4(number)) => begins_u32(number, first, prefix),
             (Addr::V6(first), Addr::V6(number)) => begins_u128(number, first, prefix),
             _ => false,
+        }
+    }
+}
+
+impl fmt::Display for Net {
+    ghost use Rattle.std.specs.Prelude.{Some};
+    ghost use Rattle.fw_addr.specs.Nets.{net_text};
+
+    ghost output = { λ net. Some (net_text net) };
+
+    fn fmt<W: fmt::Write>(&self, f: &mut fmt::Formatter<W>) -> fmt::Result {
+        let Net { addr, prefix } = *self;
+        if prefix == addr.width() {
+            f.write(addr)
+        } else {
+            write!(f, "{addr}/{prefix}")
         }
     }
 }
@@ -186,11 +203,6 @@ fn mask_length(mask: u32) -> Option<u8>
 pub fn print_net(alloc: Global, net: &Net) -> Result<Text, Memory>
     ensures { IfOk result (λ text. text ≡ net_text net.now) }
 {
-    let Net { addr, prefix } = *net;
-    let text = print_addr(alloc, &addr)?;
-    if prefix == addr.width() {
-        return Ok(text);
-    }
-    let string = format!(in alloc; "{}/{prefix}", text.as_str())?;
+    let string = format!(in alloc; "{net}")?;
     Ok(Text::from_string(string))
 }

@@ -7,6 +7,7 @@ use super::AddrError;
 use fw_base::{Memory, Text};
 use fw_text::{cut, read_number};
 use std::alloc::Global;
+use std::fmt;
 use std::marker::Model;
 
 /// A range of ports, both ends among them. Its first port isn't above its last.
@@ -35,6 +36,22 @@ impl PortRange {
         ensures { result ≡ in_range self.now port }
     {
         self.first <= port && port <= self.last
+    }
+}
+
+impl fmt::Display for PortRange {
+    ghost use Rattle.std.specs.Prelude.{Some};
+    ghost use Rattle.fw_addr.specs.Ports.{ports_text};
+
+    ghost output = { λ range. Some (ports_text range) };
+
+    fn fmt<W: fmt::Write>(&self, f: &mut fmt::Formatter<W>) -> fmt::Result {
+        let PortRange { first, last } = *self;
+        if first == last {
+            write!(f, "{first}")
+        } else {
+            write!(f, "{first}-{last}")
+        }
     }
 }
 
@@ -76,11 +93,6 @@ fn read_port(text: &[u8]) -> Option<u16>
 pub fn print_ports(alloc: Global, range: &PortRange) -> Result<Text, Memory>
     ensures { IfOk result (λ text. text ≡ ports_text range.now) }
 {
-    let PortRange { first, last } = *range;
-    let string = if first == last {
-        format!(in alloc; "{first}")?
-    } else {
-        format!(in alloc; "{first}-{last}")?
-    };
+    let string = format!(in alloc; "{range}")?;
     Ok(Text::from_string(string))
 }

@@ -8,6 +8,7 @@ use super::AddrError;
 use fw_base::{Memory, Text};
 use fw_text::read_number;
 use std::alloc::Global;
+use std::fmt;
 use std::marker::Model;
 
 /// A transport protocol that has ports.
@@ -45,6 +46,17 @@ impl PortProto {
     }
 }
 
+impl fmt::Display for PortProto {
+    ghost use Rattle.std.specs.Prelude.{Some};
+    ghost use Rattle.fw_addr.specs.Protocols.{port_proto_text};
+
+    ghost output = { λ proto. Some (port_proto_text proto) };
+
+    fn fmt<W: fmt::Write>(&self, f: &mut fmt::Formatter<W>) -> fmt::Result {
+        f.write_str(self.as_str())
+    }
+}
+
 /// An IP protocol by its number in IANA's registry. Contracts see the number.
 #[derive(Clone, Copy, Debug, PartialEq, Eq)]
 pub struct Proto(pub u8);
@@ -57,6 +69,20 @@ impl Model for Proto {
     ghost view = { λ proto. proto.0 };
 
     ghost inverse = { λ number. record { 0 = number } };
+}
+
+impl fmt::Display for Proto {
+    ghost use Rattle.std.specs.Prelude.{Some};
+    ghost use Rattle.fw_addr.specs.Protocols.{proto_text};
+
+    ghost output = { λ proto. Some (proto_text proto) };
+
+    fn fmt<W: fmt::Write>(&self, f: &mut fmt::Formatter<W>) -> fmt::Result {
+        match name_of(self.0) {
+            Some(name) => f.write_str(name),
+            None => f.write(self.0),
+        }
+    }
 }
 
 /// Reads the name of a protocol that has ports: `tcp`, `udp`, `sctp` or `dccp`.
@@ -107,11 +133,8 @@ fn number_named(text: &str) -> Option<u8>
 pub fn print_proto(alloc: Global, proto: &Proto) -> Result<Text, Memory>
     ensures { IfOk result (λ text. text ≡ proto_text proto.now) }
 {
-    let number = proto.0;
-    match name_of(number) {
-        Some(name) => Text::of(alloc, name),
-        None => Ok(Text::from_string(format!(in alloc; "{number}")?)),
-    }
+    let string = format!(in alloc; "{proto}")?;
+    Ok(Text::from_string(string))
 }
 
 fn name_of(number: u8) -> Option<&'static str>

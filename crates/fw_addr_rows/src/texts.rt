@@ -1,6 +1,9 @@
 //! Texts with their canonical forms, from RFC 4291, RFC 5952, nft(8) and the manual pages of firewalld.
-use super::*;
-use fw_base::{Memory, Text, TryCopy};
+use fw_addr::{
+    AddrError, print_addr, print_mac, print_net, print_ports, print_proto, read_addr, read_iface,
+    read_mac, read_net, read_ports, read_proto,
+};
+use fw_base::Text;
 use std::alloc::Global;
 
 fn canonical_net(alloc: Global, text: &str) -> Option<Text> {
@@ -192,92 +195,4 @@ fn interfaces_and_members_of_nets(rt: HostRuntime) {
     ] {
         assert!(rt; has_address(net, addr) == want, "{net} {addr}");
     }
-}
-
-#[test]
-fn names(rt: HostRuntime) {
-    for (name, v4, v6) in [
-        ("destination-unreachable", Some(3), Some(1)),
-        ("echo-reply", Some(0), Some(129)),
-        ("echo-request", Some(8), Some(128)),
-        ("neighbour-advertisement", None, Some(136)),
-        ("neighbour-solicitation", None, Some(135)),
-        ("packet-too-big", None, Some(2)),
-        ("parameter-problem", Some(12), Some(4)),
-        ("redirect", Some(5), Some(137)),
-        ("router-advertisement", Some(9), Some(134)),
-        ("router-solicitation", Some(10), Some(133)),
-        ("time-exceeded", Some(11), Some(3)),
-    ] {
-        assert!(rt;
-            icmp_numbers(name) == Some(IcmpNumbers { v4, v6 }),
-            "{name}"
-        );
-    }
-    assert!(rt; icmp_numbers("echo").is_none());
-    for (proto, name) in [
-        (PortProto::Tcp, "tcp"),
-        (PortProto::Udp, "udp"),
-        (PortProto::Sctp, "sctp"),
-        (PortProto::Dccp, "dccp"),
-    ] {
-        assert!(rt; read_port_proto(name) == Ok(proto), "{name}");
-        assert!(rt; read_proto(name) == Ok(proto.proto()), "{name}");
-    }
-    assert!(rt; read_port_proto("icmp") == Err(AddrError::InvalidProtocol));
-    assert!(rt; is_well_formed_name("web-site_2.x"));
-    assert!(rt; !is_well_formed_name(""));
-    assert!(rt; !is_well_formed_name("a b"));
-}
-
-/// The values that callers copy, each of them once.
-fn copies(alloc: Global) -> Result<bool, Memory> {
-    let line = LogLine {
-        kind: LogKind::Audit,
-        level: Level::Notice,
-        prefix: Text::of(alloc, "accept")?,
-    };
-    let line = line.copy(alloc)?;
-    let dnat = Dnat {
-        addr: Some(Addr::V4(1)),
-        port: Some(80),
-    };
-    let limit = Limit {
-        count: 3,
-        unit: Unit::Minute,
-    };
-    let same = dnat.copy(alloc)? == dnat
-        && limit.copy(alloc)? == limit
-        && limit.unit.copy(alloc)? == Unit::Minute
-        && Addr::V6(1).copy(alloc)? == Addr::V6(1)
-        && Net::new(Addr::V4(1), 32).copy(alloc)? == Net::new(Addr::V4(1), 32)
-        && Proto(6).copy(alloc)? == Proto(6)
-        && PortProto::Udp.copy(alloc)? == PortProto::Udp
-        && Mac(7).copy(alloc)? == Mac(7)
-        && Family::V6.copy(alloc)? == Family::V6
-        && CtState::Related.copy(alloc)? == CtState::Related
-        && PktType::Multicast.copy(alloc)? == PktType::Multicast
-        && RejectType::TcpReset.copy(alloc)? == RejectType::TcpReset;
-    let range = PortRange { first: 1, last: 2 };
-    let numbers = IcmpNumbers {
-        v4: Some(8),
-        v6: None,
-    };
-    let iface = match read_iface("eth+") {
-        Ok(iface) => iface.copy(alloc)?.matches("eth0"),
-        Err(_) => false,
-    };
-    Ok(
-        same && iface
-            && range.copy(alloc)? == range
-            && numbers.copy(alloc)? == numbers
-            && line.kind.copy(alloc)? == LogKind::Audit
-            && line.level.copy(alloc)? == Level::Notice
-            && line.prefix.as_str() == "accept",
-    )
-}
-
-#[test]
-fn copies_are_equal(rt: HostRuntime) {
-    assert!(rt; copies(rt.alloc()) == Ok(true));
 }
