@@ -1,5 +1,6 @@
-//! Prints addresses and nets of each family, reads them back, and prints a checksum of their texts alone. The
-//! argument says how many of each. The folder bench/ has the yardstick that does the same.
+//! Prints addresses and nets of each family, reads them back, reads texts that are refused or not canonical, masks and
+//! long prefixes, and prints a checksum of the texts alone. The argument says how many of each. The folder bench/ has
+//! the yardstick that does the same.
 #![tactic(auto)]
 
 use anyhow::{Result, anyhow};
@@ -70,6 +71,38 @@ fn with_net(alloc: Global, sum: u64, net: Net) -> Result<u64, Memory> {
     }
 }
 
+/// Texts that are no nets or not canonical, a mask, and prefixes of all lengths.
+const TEXTS: [&str; 16] = [
+    "256.1.1.1",
+    "1.2.3",
+    "01.2.3.4",
+    "10.0.0.0/33",
+    "::/129",
+    "1:2:3:4:5:6:7:8:9",
+    "1::2::3",
+    "fe80::1%eth0",
+    "12345::",
+    "10.1.2.3/8",
+    "10.0.0.0/255.255.255.0",
+    "10.0.0.0/255.0.255.0",
+    "2001:0DB8:0000:0000:0000:0000:0000:0001",
+    "::ffff:1.2.3.4/120",
+    "2001:db8:aaaa:bbbb:cccc:dddd:eeee:1/127",
+    "1.2.3.4/31",
+];
+
+/// The checksum with the canonical texts of those that are nets, and one more for each other.
+fn with_texts(alloc: Global, sum: u64) -> Result<u64, Memory> {
+    let mut sum = sum;
+    for text in TEXTS {
+        match read_net(text) {
+            Ok(net) => sum = mixed(sum, print_net(alloc, &net)?.as_str()),
+            Err(_) => sum = sum.wrapping_add(1),
+        }
+    }
+    Ok(sum)
+}
+
 fn checksum(alloc: Global, count: u64) -> Result<u64, Memory> {
     let mut generator = Generator { state: 1 };
     let mut sum = 0;
@@ -79,6 +112,10 @@ fn checksum(alloc: Global, count: u64) -> Result<u64, Memory> {
         let prefix = 8 + (generator.draw() % 24) as u8;
         sum = with_net(alloc, sum, Net::new(generator.v4(), prefix))?;
         sum = with_net(alloc, sum, Net::new(generator.v6(), prefix))?;
+        let long = 64 + (generator.draw() % 65) as u8;
+        let addr = generator.v6();
+        sum = with_net(alloc, sum, Net::new(addr, long.min(addr.width())))?;
+        sum = with_texts(alloc, sum)?;
     }
     Ok(sum)
 }

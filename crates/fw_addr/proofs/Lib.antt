@@ -1,6 +1,6 @@
-pub mod GapLemmas
-pub mod GroupLemmas
+pub mod GroupsGrammar
 pub mod HexLemmas
+pub mod Ipv6Grammar
 pub mod Ipv6Laws
 pub mod LawLemmas
 pub mod MaskLaws
@@ -8,5 +8,3 @@ pub mod NetLaws
 pub mod NetLemmas
 pub mod PieceLemmas
 pub mod PowerLemmas
-pub mod RunLemmas
-pub mod TextLemmas

@@ -15,12 +15,12 @@ use Rattle.fw_addr.proofs.NetLemmas.{cleared_self}
 
 pub address_back : ReadsDecimals → (host : Addr) → bits host < 2 ^ width host → address (address_text host) ≡ Some host
 address_back reads (V4 n) small = rw (ipv4_back reads n small) refl
-address_back reads (V6 n) small = rw (ipv6_no_ipv4 n small, ipv6_back n small) refl
+address_back reads (V6 n) small = rw (ipv6_no_ipv4 n small, ipv6_back reads n small) refl
 
 -- no address has a `/`
 address_lacks : (host : Addr) → bits host < 2 ^ width host → Lacks 47 (address_text host)
 address_lacks (V4 n) small = ipv4_lacks n small
-address_lacks (V6 n) small = ipv6_lacks 47 n (lit≤ tt) refl small
+address_lacks (V6 n) small = ipv6_lacks 47 n (λ c is same. omega (arith, is, same)) small
 
 -- a net is the net of its own address
 subnet_self : (host : Addr) (prefix : ℕ) → is_subnet (record { address = host; prefix = prefix }) ≡ true → subnet host prefix ≡ record { address = host; prefix = prefix }

@@ -1,7 +1,8 @@
 -- What the pieces of a text look like.
 use Rattle.std.proofs.Common.{◌≡◌, ℕ, Bool, true, false, cond, eqb, List, [], ◌∷◌, Option, Some, None, Bor, refl, ap}
+use Rattle.std.specs.List.{onto_first}
 use Rattle.std.specs.Option.{option_copied, is_some}
-use Rattle.fw_text.specs.Pieces.{pieces, onto_first, later_pieces}
+use Rattle.fw_text.specs.Pieces.{pieces, later_pieces}
 
 -- a text has a first piece
 pub some_piece : (separator : ℕ) (text : List ℕ) → (first : List ℕ) × (rest : List (List ℕ)) × (pieces separator text ≡ first ∷ rest)

@@ -88,14 +88,14 @@ groups_around text (Some sides) = do
   behind ← side (last_groups true) sides.1
   filled before behind
 
--- eight groups as a number, the first the most significant
+-- the eight groups that a text spells
+abbrev pub ipv6_groups : List ℕ → Option (List ℕ)
+ipv6_groups text = groups_around text (around_gap text)
+
+-- as a number, the first the most significant
 abbrev pub ipv6 : List ℕ → Option ℕ
-ipv6 text = option_map (number_from_digits 65536) (groups_around text (around_gap text))
+ipv6 text = option_map (number_from_digits 65536) (ipv6_groups text)
 
 -- an address is an IPv4 text, or else an IPv6 text
 abbrev pub address : List ℕ → Option Addr
 address text = option_or (option_map V4 (ipv4 text)) (option_map V6 (ipv6 text))
-
--- no more than eight groups: more are no address, whatever stands beside them
-abbrev pub short : Option (List ℕ) → Option (List ℕ)
-short found = found >>= (λ values. if nat_le (length values) 8 then Some values else None)

@@ -1,7 +1,7 @@
 -- The canonical texts of addresses: RFC 5952, section 4, and for IPv4 the dotted decimal form of RFC 4291.
-use Rattle.std.specs.Prelude.{ℕ, ◌+◌, ◌-◌, ◌/◌, ◌%◌, ◌^◌, ◌==◌, Bool, List, [], ◌∷◌, ◌++◌, map, take, drop, Option, None, Some, find, codes, decimal}
-use Rattle.std.specs.List.{list_all, flat_map, join_with_byte}
-use Rattle.fw_addr.specs.Hexadecimal.{hex}
+use Rattle.std.specs.Prelude.{◌≡◌, ℕ, ◌+◌, ◌/◌, ◌%◌, ◌^◌, ◌≤◌, List, [], ◌∷◌, length, take, drop, replicate, decimal}
+use Rattle.std.specs.List.{join_with_byte}
+use Rattle.std.specs.Net.Text.{compressed_text, hex_groups_text}
 use Rattle.fw_addr.specs.declared.addr.Addr.{Addr}
 use Rattle.fw_addr.specs.declared.addr.Addr.TheVariants.{V4, V6}
 
@@ -16,34 +16,25 @@ groups_of n =
     n / 2 ^ 112 ∷ n / 2 ^ 96 % 65536 ∷ n / 2 ^ 80 % 65536 ∷ n / 2 ^ 64 % 65536
     ∷ n / 2 ^ 48 % 65536 ∷ n / 2 ^ 32 % 65536 ∷ n / 2 ^ 16 % 65536 ∷ n % 65536 ∷ []
 
--- where runs of so many groups may begin: a run is its first place and its number of groups
-abbrev pub runs_of : ℕ → List (ℕ × ℕ)
-runs_of count = map (λ start. (start, count)) (take (9 - count) (0 ∷ 1 ∷ 2 ∷ 3 ∷ 4 ∷ 5 ∷ 6 ∷ []))
-
--- all runs of at least two groups, the longest first, and of equals the first one first
-abbrev pub runs : List (ℕ × ℕ)
-runs = flat_map runs_of (8 ∷ 7 ∷ 6 ∷ 5 ∷ 4 ∷ 3 ∷ 2 ∷ [])
-
--- whether all groups of a run are zero
-abbrev pub is_zero : List ℕ → ℕ × ℕ → Bool
-is_zero groups run = list_all (λ group. group == 0) (take run.1 (drop run.0 groups))
-
--- the longest run of at least two zero groups, and of equals the first
-unfoldable pub longest : List ℕ → Option (ℕ × ℕ)
-longest groups = find (is_zero groups) runs
-
--- groups joined by `:` (58)
-abbrev pub joined : List ℕ → List ℕ
-joined groups = join_with_byte 58 (map hex groups)
-
--- groups with `::` in place of a run
-abbrev pub shortened : List ℕ → Option (ℕ × ℕ) → List ℕ
-shortened groups None = joined groups
-shortened groups (Some run) = joined (take run.0 groups) ++ codes "::" ++ joined (drop (run.0 + run.1) groups)
-
+-- its groups in hexadecimal joined by `:`, with `::` in place of the longest run of zero groups: std's text of an
+-- address without an IPv4 part
 abbrev pub ipv6_text : ℕ → List ℕ
-ipv6_text n = let groups = groups_of n in shortened groups (longest groups)
+ipv6_text n = hex_groups_text (groups_of n)
 
 abbrev pub address_text : Addr → List ℕ
 address_text (V4 n) = ipv4_text n
 address_text (V6 n) = ipv6_text n
+
+-- so many zeros stand from one place on
+abbrev pub ZerosAt : (groups : List ℕ) (start count : ℕ) → Type 0
+ZerosAt groups start count = (start + count ≤ length groups) × (take count (drop start groups) ≡ replicate count 0)
+
+-- A text of groups leaves out a run of zeros, if it has two or more: no run is longer, and none as long begins before
+-- it (RFC 5952, section 4.2).
+pub record LeavesLongestOut (groups text : List ℕ) : Type 0 where
+  pub start : ℕ
+  pub count : ℕ
+  pub text_is : text ≡ compressed_text groups (start, count)
+  pub zeros : ZerosAt groups start count
+  pub longest : (from many : ℕ) → ZerosAt groups from many → many ≤ count
+  pub first : (from many : ℕ) → ZerosAt groups from many → many ≡ count → start ≤ from

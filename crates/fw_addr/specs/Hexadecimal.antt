@@ -3,7 +3,7 @@ use Rattle.std.specs.Prelude.{ℕ, ◌/◌, ◌%◌, Bool, false, if◌then◌el
 use Rattle.std.specs.Char.{is_digit}
 use Rattle.std.specs.List.{list_all}
 use Rattle.std.specs.Str.Parse.{digits_value_after}
-use Rattle.std.specs.Fmt.{digit_glyph, digits}
+use Rattle.std.specs.Fmt.{digit_glyph}
 
 -- a hexadecimal digit of either case
 abbrev pub is_hex : ℕ → Bool
@@ -12,10 +12,6 @@ is_hex byte = is_digit byte 16
 -- an octet in two digits, in lower case
 abbrev pub hex_byte : ℕ → List ℕ
 hex_byte n = digit_glyph false (n / 16) ∷ digit_glyph false (n % 16) ∷ []
-
--- a number without leading zeros, in lower case
-abbrev pub hex : ℕ → List ℕ
-hex n = digits 16 false n
 
 -- the number that digits spell behind those of `before`, where all are digits
 abbrev pub hex_to : ℕ → List ℕ → Option ℕ

@@ -1,8 +1,8 @@
 -- Ranges of ports, by the texts of firewalld's port options and of nft(8): one number, or two joined by `-`.
 use Rattle.std.specs.Prelude.{ℕ, ◌==◌, nat_le, Bool, ◌&&◌, if◌then◌else◌, List, [], ◌∷◌, ◌++◌, Option, None, Some, decimal}
-use Rattle.std.specs.Option.{option_and_then}
 use Rattle.fw_text.specs.Number.{number_to}
 use Rattle.fw_text.specs.Pieces.{pieces}
+use Rattle.fw_text.specs.Steps.{◌>>=◌}
 
 -- from one port to another, both among them
 pub record Range : Type 0 where
@@ -20,8 +20,13 @@ range_to first last = if nat_le first last then Some (record { first = first; la
 -- what one piece, or two, say
 abbrev pub range_of : List (List ℕ) → Option Range
 range_of [] = None
-range_of (one ∷ []) = option_and_then (λ n. range_to n n) (port one)
-range_of (first ∷ last ∷ []) = option_and_then (λ m. option_and_then (range_to m) (port last)) (port first)
+range_of (one ∷ []) = do
+  n ← port one
+  range_to n n
+range_of (first ∷ second ∷ []) = do
+  m ← port first
+  n ← port second
+  range_to m n
 range_of (first ∷ second ∷ third ∷ rest) = None
 
 -- a port, or two joined by `-` (45) of which the first isn't above the last

@@ -1,13 +1,13 @@
 //! IP addresses and their texts.
-ghost use Rattle.std.specs.Prelude.{◌≡◌, IfOk};
+ghost use Rattle.std.specs.Prelude.{◌≡◌, ◌<◌, ◌^◌, IfOk, Some};
 ghost use Rattle.std.specs.Option.{ok_or};
 ghost use Rattle.fw_addr.specs.Addresses.{address};
 ghost use Rattle.fw_addr.specs.Canonical.{address_text};
-ghost use Rattle.fw_addr.specs.Subnets.{family, width};
+ghost use Rattle.fw_addr.specs.Subnets.{bits, family, width};
 
 use super::ipv4::{Dotted, read_ipv4};
-use super::ipv6::read_ipv6;
-use super::ipv6_text::ColonHex;
+use super::ipv6::{ColonHex, read_ipv6};
+use super::laws::printed_addresses_are_read;
 use super::{AddrError, Family};
 use fw_base::{Memory, Text};
 use std::alloc::Global;
@@ -77,8 +77,21 @@ pub fn parse_addr(text: &[u8]) -> Option<Addr>
 
 /// The address as a text: four decimal numbers, or the form of RFC 5952, section 4, without an IPv4 part.
 pub fn print_addr(alloc: Global, addr: &Addr) -> Result<Text, Memory>
-    ensures { IfOk result (λ text. text ≡ address_text addr.now) }
+    ensures text { IfOk result (λ text. text ≡ address_text addr.now) }
+    ensures read_back { IfOk result (λ text. address text ≡ Some addr.now) }
 {
+    printed_addresses_are_read();
+    bits_fit(*addr);
     let string = format!(in alloc; "{addr}")?;
     Ok(Text::from_string(string))
+}
+
+/// An address has no more bits than its width. This is a law: its clause is all of it.
+pub fn bits_fit(addr: Addr)
+    ensures { bits addr < 2 ^ width addr }
+{
+    match addr {
+        Addr::V4(number) => prove!(number <= u32::MAX),
+        Addr::V6(number) => prove!(number <= u128::MAX),
+    }
 }

@@ -1,7 +1,8 @@
 //! What is printed reads back. Each function here is a law: its clause is all of it.
-ghost use Rattle.std.specs.Prelude.{◌≡◌, ℕ, ◌-◌, ◌<◌, ◌≤◌, ◌^◌, IsTrue, Some};
-ghost use Rattle.fw_addr.specs.Addresses.{address};
-ghost use Rattle.fw_addr.specs.Canonical.{address_text};
+ghost use Rattle.std.specs.Prelude.{◌≡◌, ℕ, ◌-◌, ◌<◌, ◌≤◌, ◌^◌, ◌↔◌, List, IsTrue, Some};
+ghost use Rattle.std.specs.Net.Grammar.{IsColonHex};
+ghost use Rattle.fw_addr.specs.Addresses.{address, ipv6_groups};
+ghost use Rattle.fw_addr.specs.Canonical.{LeavesLongestOut, address_text, groups_of, ipv6_text};
 ghost use Rattle.fw_addr.specs.Hardware.{mac, mac_text};
 ghost use Rattle.fw_addr.specs.Nets.{mask_length, net, net_text};
 ghost use Rattle.fw_addr.specs.Protocols.{port_proto, port_proto_text, proto, proto_text};
@@ -49,4 +50,16 @@ pub fn printed_nets_are_read()
 /// A mask of ones and then zeros is read as the number of its ones.
 pub fn masks_are_read()
     ensures { (ones : ℕ) → ones ≤ 32 → mask_length (2 ^ 32 - 2 ^ (32 - ones)) ≡ Some ones }
+{}
+
+/// A text spells eight groups exactly where the relation of std for texts of IPv6 addresses says so.
+pub fn ipv6_texts_are_those_of_std()
+    ensures { (text values : List ℕ) → IsColonHex text values ↔ (ipv6_groups text ≡ Some values) }
+{
+    decimal_is_read();
+}
+
+/// The text of an IPv6 address leaves out the longest run of zero groups, and of equals the first.
+pub fn longest_runs_are_shortened()
+    ensures { (n : ℕ) → LeavesLongestOut (groups_of n) (ipv6_text n) }
 {}

@@ -10,7 +10,6 @@ mod icmp;
 mod iface;
 mod ipv4;
 mod ipv6;
-mod ipv6_text;
 mod laws;
 mod limit;
 mod log;
@@ -28,8 +27,9 @@ pub use error::AddrError;
 pub use icmp::{IcmpNumbers, icmp_numbers};
 pub use iface::{Iface, read_iface};
 pub use laws::{
-    masks_are_read, printed_addresses_are_read, printed_hardware_addresses_are_read,
-    printed_nets_are_read, printed_ports_are_read, printed_protocols_are_read,
+    ipv6_texts_are_those_of_std, longest_runs_are_shortened, masks_are_read,
+    printed_addresses_are_read, printed_hardware_addresses_are_read, printed_nets_are_read,
+    printed_ports_are_read, printed_protocols_are_read,
 };
 pub use limit::{Limit, Unit};
 pub use log::{Level, LogKind, LogLine};

@@ -1,10 +1,11 @@
 //! Hardware addresses of Ethernet.
-ghost use Rattle.std.specs.Prelude.{◌≡◌, ◌≤◌, IfOk, IfSome};
+ghost use Rattle.std.specs.Prelude.{◌≡◌, ◌≤◌, IfOk, IfSome, Some};
 ghost use Rattle.std.specs.Option.{ok_or};
 ghost use Rattle.fw_addr.specs.Hardware.{hex_octet, mac, mac_text};
 
 use super::AddrError;
 use super::hexadecimal::read_hex;
+use super::laws::printed_hardware_addresses_are_read;
 use fw_base::{Memory, Text};
 use fw_text::cut;
 use std::alloc::Global;
@@ -102,9 +103,12 @@ impl fmt::Display for Octet {
 }
 
 /// The address as a text: six octets of two digits in lower case, joined by `:`.
-pub fn print_mac(alloc: Global, mac: &Mac) -> Result<Text, Memory>
-    ensures { IfOk result (λ text. text ≡ mac_text mac.now) }
+pub fn print_mac(alloc: Global, address: &Mac) -> Result<Text, Memory>
+    ensures text { IfOk result (λ text. text ≡ mac_text address.now) }
+    ensures read_back { IfOk result (λ text. mac text ≡ Some address.now) }
 {
-    let string = format!(in alloc; "{mac}")?;
+    printed_hardware_addresses_are_read();
+    let _number = address.0;
+    let string = format!(in alloc; "{address}")?;
     Ok(Text::from_string(string))
 }

@@ -4,8 +4,9 @@ ghost use Rattle.std.specs.Option.{ok_or};
 ghost use Rattle.fw_addr.specs.Nets.{net, net_text, mask_length, prefix_length};
 ghost use Rattle.fw_addr.specs.Subnets.{SharesBits, SharesPrefix, cleared, in_net, leading, subnet, width};
 
-use super::addr::parse_addr;
+use super::addr::{bits_fit, parse_addr};
 use super::ipv4::read_ipv4;
+use super::laws::printed_nets_are_read;
 use super::{Addr, AddrError};
 use fw_base::{Memory, Text};
 use fw_text::{cut, read_number};
@@ -200,9 +201,12 @@ fn mask_length(mask: u32) -> Option<u8>
 }
 
 /// The net as a text: the prefix length is left out where the net is one address.
-pub fn print_net(alloc: Global, net: &Net) -> Result<Text, Memory>
-    ensures { IfOk result (λ text. text ≡ net_text net.now) }
+pub fn print_net(alloc: Global, whole: &Net) -> Result<Text, Memory>
+    ensures text { IfOk result (λ text. text ≡ net_text whole.now) }
+    ensures read_back { IfOk result (λ text. net text ≡ Some whole.now) }
 {
-    let string = format!(in alloc; "{net}")?;
+    printed_nets_are_read();
+    bits_fit(whole.addr);
+    let string = format!(in alloc; "{whole}")?;
     Ok(Text::from_string(string))
 }

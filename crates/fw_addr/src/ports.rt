@@ -1,9 +1,10 @@
 //! Ranges of ports, and the protocols that have ports.
-ghost use Rattle.std.specs.Prelude.{◌≡◌, ◌≤◌, IfOk, IfSome};
+ghost use Rattle.std.specs.Prelude.{◌≡◌, ◌≤◌, IfOk, IfSome, Some};
 ghost use Rattle.std.specs.Option.{ok_or};
 ghost use Rattle.fw_addr.specs.Ports.{port, port_range, ports_text, in_range};
 
 use super::AddrError;
+use super::laws::printed_ports_are_read;
 use fw_base::{Memory, Text};
 use fw_text::{cut, read_number};
 use std::alloc::Global;
@@ -91,8 +92,11 @@ fn read_port(text: &[u8]) -> Option<u16>
 
 /// The range as a text: its ends joined by `-`, or one number where they are equal.
 pub fn print_ports(alloc: Global, range: &PortRange) -> Result<Text, Memory>
-    ensures { IfOk result (λ text. text ≡ ports_text range.now) }
+    ensures text { IfOk result (λ text. text ≡ ports_text range.now) }
+    ensures read_back { IfOk result (λ text. port_range text ≡ Some range.now) }
 {
+    printed_ports_are_read();
+    let _last = range.last;
     let string = format!(in alloc; "{range}")?;
     Ok(Text::from_string(string))
 }

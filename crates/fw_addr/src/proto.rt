@@ -1,10 +1,11 @@
 //! IP protocols: those with ports, and all of them by number.
-ghost use Rattle.std.specs.Prelude.{◌≡◌, IfOk};
+ghost use Rattle.std.specs.Prelude.{◌≡◌, IfOk, Some};
 ghost use Rattle.std.specs.Option.{ok_or, option_copied};
 ghost use Rattle.fw_text.specs.Names.{name_of, named};
 ghost use Rattle.fw_addr.specs.Protocols.{port_proto, port_proto_text, proto, proto_names, proto_number, proto_text};
 
 use super::AddrError;
+use super::laws::printed_protocols_are_read;
 use fw_base::{Memory, Text};
 use fw_text::read_number;
 use std::alloc::Global;
@@ -130,10 +131,13 @@ fn number_named(text: &str) -> Option<u8>
 }
 
 /// The protocol as a text: its name where there is one, else its number.
-pub fn print_proto(alloc: Global, proto: &Proto) -> Result<Text, Memory>
-    ensures { IfOk result (λ text. text ≡ proto_text proto.now) }
+pub fn print_proto(alloc: Global, protocol: &Proto) -> Result<Text, Memory>
+    ensures text { IfOk result (λ text. text ≡ proto_text protocol.now) }
+    ensures read_back { IfOk result (λ text. proto text ≡ Some protocol.now) }
 {
-    let string = format!(in alloc; "{proto}")?;
+    printed_protocols_are_read();
+    let _number = protocol.0;
+    let string = format!(in alloc; "{protocol}")?;
     Ok(Text::from_string(string))
 }
 

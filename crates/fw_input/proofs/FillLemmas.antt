@@ -4,9 +4,9 @@ use Rattle.std.specs.Option.{option_map}
 use Rattle.std.proofs.lemmas.List.{length-take, take-append-drop}
 use Rattle.std.proofs.Math.Seq.{take-append-add}
 use Rattle.fw_input.specs.declared.buffer.Refill.TheVariants.{Bytes}
-use Rattle.fw_input.specs.Refilling.{Fills, to_come}
+use Rattle.fw_input.specs.Refilling.{Fills, bytes_to_come}
 
-pub to_come-read : (front items fresh : List ℕ) (left after : Option (List ℕ)) → items ≡ front ++ fresh → left ≡ option_map (λ bytes. fresh ++ bytes) after → to_come items after ≡ to_come front left
+pub to_come-read : (front items fresh : List ℕ) (left after : Option (List ℕ)) → items ≡ front ++ fresh → left ≡ option_map (λ bytes. fresh ++ bytes) after → bytes_to_come items after ≡ bytes_to_come front left
 to_come-read front items fresh left None joined read = rw read refl
 to_come-read front items fresh left (Some bytes) joined read = rw (read, joined) (ap Some (append_assoc front fresh bytes))
 

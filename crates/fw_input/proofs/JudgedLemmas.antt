@@ -8,7 +8,7 @@ use Rattle.std.proofs.Math.Seq.{take-nil}
 use Rattle.std.proofs.lemmas.List.Folds.{length-prefix_len}
 use Rattle.std.proofs.lemmas.List.Splits.{slice_split_first, slice_split_none, length-slice_split}
 use Rattle.std.proofs.lemmas.List.Sums.{prefix_len-le-length, take_while-cons, fails_before_first}
-use Rattle.fw_input.specs.Lines.{is_lf, next, Next, Line, Ends, End, LineTooLong, InputTooLong, Judgement, judged, no_line, with_line, whole_lines, all_lines}
+use Rattle.fw_input.specs.Lines.{is_lf, next, Next, Line, Over, End, LineTooLong, InputTooLong, Judgement, judged, no_line, with_line, whole_lines, all_lines}
 use Rattle.fw_input.proofs.LineLemmas.{prefix_len-take, length-line}
 use Rattle.fw_input.proofs.NextLemmas.{line-within, position-within, next-long, next-line, next-input, next-last, next-end}
 
@@ -132,7 +132,7 @@ judged-last limit budget bytes none within short some =
 -- the judgement that what comes next leads to
 abbrev pub by_next : (limit budget : ℕ) → Next → Judgement
 by_next limit budget (Line line rest) = with_line line (judged limit (budget - (length line + 1)) rest)
-by_next limit budget (Ends ending) = no_line ending
+by_next limit budget (Over ending) = no_line ending
 
 next-none : (limit budget : ℕ) (bytes : List ℕ) → position_or_len is_lf bytes ≡ length bytes → length bytes ≤ budget → length bytes ≤ limit → judged limit budget bytes ≡ by_next limit budget (next limit budget bytes)
 next-none limit budget [] none within short = judged-end limit budget ∙ sym (ap (by_next limit budget) (next-end limit budget))

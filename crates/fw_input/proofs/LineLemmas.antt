@@ -8,7 +8,7 @@ use Rattle.std.proofs.lemmas.List.Sums.{position_or_len_is, prefix_len-le-length
 use Rattle.std.proofs.lemmas.Bool.{false_from_ne_true}
 use Rattle.memchr.specs.Find.{IsFirstByte, is_byte}
 use Rattle.fw_input.specs.Lines.{is_lf}
-use Rattle.fw_input.specs.Reading.{Reader, decision}
+use Rattle.fw_input.specs.Reading.{Reader, decided}
 use Rattle.fw_input.specs.Refilling.{choice}
 
 pub prefix_len-take : {X : Type 0} (p : X → Bool) (n : ℕ) (xs : List X) → prefix_len p (take n xs) ≡ min n (prefix_len p xs)
@@ -21,8 +21,8 @@ length-line budget bytes =
     length-prefix_len (λ b. not (is_lf b)) (take budget bytes) ∙ prefix_len-take (λ b. not (is_lf b)) budget bytes
 
 -- the decision by numbers: so many bytes stand before the first LF, of so many bytes ahead
-pub decision-choice : (r : Reader) (first all : ℕ) → position_or_len is_lf r.ahead ≡ first → length r.ahead ≡ all → decision r ≡ choice r.line_limit r.budget first all
-unfolding decision
+pub decision-choice : (r : Reader) (first all : ℕ) → position_or_len is_lf r.ahead ≡ first → length r.ahead ≡ all → decided r ≡ choice r.line_limit r.budget first all
+unfolding decided
 decision-choice r first all is_first is_all = rw (length-line, is_first, length-take, is_all) refl
 
 pub length-slice_range : (bytes : List ℕ) (start end : ℕ) → end ≤ length bytes → length (slice_range bytes start end) ≡ end - start

@@ -7,7 +7,7 @@ use Rattle.std.proofs.lemmas.List.{length-take, length-append, take-append-le, d
 use Rattle.std.proofs.lemmas.List.Folds.{length-prefix_len, prefix_len-append}
 use Rattle.std.proofs.lemmas.List.Sums.{prefix_len-le-length}
 use Rattle.std.proofs.Math.Seq.{take-nil}
-use Rattle.fw_input.specs.Lines.{is_lf, next, Line, Ends, End, LineTooLong, InputTooLong}
+use Rattle.fw_input.specs.Lines.{is_lf, next, Line, Over, End, LineTooLong, InputTooLong}
 use Rattle.fw_input.proofs.LineLemmas.{prefix_len-take, length-line}
 
 take-take : (n budget : ℕ) (bytes : List ℕ) → n ≤ budget → take n (take budget bytes) ≡ take n bytes
@@ -23,7 +23,7 @@ position-within budget bytes within = prefix_len-take (λ b. not (is_lf b)) budg
 pub line-within : (budget : ℕ) (bytes : List ℕ) → position_or_len is_lf bytes < budget → before_first is_lf (take budget bytes) ≡ before_first is_lf bytes
 line-within budget bytes within = rw (position-within budget bytes within) (take-take _ budget bytes (omega arith))
 
-pub next-long : (limit budget : ℕ) (bytes : List ℕ) → limit < min budget (position_or_len is_lf bytes) → next limit budget bytes ≡ Ends LineTooLong
+pub next-long : (limit budget : ℕ) (bytes : List ℕ) → limit < min budget (position_or_len is_lf bytes) → next limit budget bytes ≡ Over LineTooLong
 unfolding next
 next-long limit budget bytes long = rw (length-line, lt-ltb _ _ long) refl
 
@@ -34,7 +34,7 @@ next-line limit budget bytes lf within short =
     let here : position_or_len is_lf bytes < min budget (length bytes) = omega arith in
     rw (line-within budget bytes within, is_first, length-take, le-ltb _ _ short, lt-ltb _ _ here) refl
 
-pub next-input : (limit budget : ℕ) (bytes : List ℕ) → min budget (position_or_len is_lf bytes) ≤ limit → budget ≤ position_or_len is_lf bytes → budget < length bytes → next limit budget bytes ≡ Ends InputTooLong
+pub next-input : (limit budget : ℕ) (bytes : List ℕ) → min budget (position_or_len is_lf bytes) ≤ limit → budget ≤ position_or_len is_lf bytes → budget < length bytes → next limit budget bytes ≡ Over InputTooLong
 unfolding next
 next-input limit budget bytes short none beyond =
     let here : min budget (length bytes) ≤ min budget (position_or_len is_lf bytes) = omega arith in
@@ -47,7 +47,7 @@ next-last limit budget bytes none within short some =
     let all : min budget (length bytes) ≤ min budget (length bytes) = omega arith in
     rw (length-line, none, length-take, le-ltb _ _ fits, le-ltb _ _ all, le-ltb _ _ within) (grind (arith, nat_tests))
 
-pub next-end : (limit budget : ℕ) → next limit budget [] ≡ Ends End
+pub next-end : (limit budget : ℕ) → next limit budget [] ≡ Over End
 unfolding next
 next-end limit budget = rw (take-nil, le-ltb limit 0 (omega arith), le-ltb budget 0 (omega arith)) refl
 

@@ -7,7 +7,7 @@ use Rattle.std.proofs.lemmas.List.Folds.{prefix_len-append}
 use Rattle.fw_input.specs.declared.line_reader.LineReader.TheInside.{Inside}
 use Rattle.fw_input.specs.Fields.{IsPlaced, reader_of}
 use Rattle.fw_input.specs.Lines.{is_lf}
-use Rattle.fw_input.specs.Reading.{Reader, decision}
+use Rattle.fw_input.specs.Reading.{Reader, decided}
 use Rattle.fw_input.specs.Refilling.{HasLine}
 use Rattle.fw_input.proofs.DecisionLemmas.{undecided}
 use Rattle.fw_input.proofs.FillLemmas.{take-plus}
@@ -39,15 +39,15 @@ refilled front items n count is_n none kept holds =
     (grind (arith, nat_tests, prefix_len-append (λ b. not (is_lf b)) front (take count (drop n items))))
 
 -- where nothing is decided no LF is ahead
-pub front-has_none : (r : Inside) (now : Reader) → reader_of r ≡ now → IsPlaced r → decision now ≡ None → position_or_len is_lf (slice_range r.buffer.items r.start r.end) ≡ r.end - r.start
+pub front-has_none : (r : Inside) (now : Reader) → reader_of r ≡ now → IsPlaced r → decided now ≡ None → position_or_len is_lf (slice_range r.buffer.items r.start r.end) ≡ r.end - r.start
 front-has_none r now view placed none =
-    let here : decision (reader_of r) ≡ None = rw view none in
+    let here : decided (reader_of r) ≡ None = rw view none in
     let all : length (slice_range r.buffer.items r.start r.end) ≡ r.end - r.start = length-slice_range _ _ _ (omega (arith, r.buffer.ok.0, placed.ends)) in
     (undecided (reader_of r) here).0 ∙ all
 
 -- and the bytes ahead are no more than a line may have
-pub front-short : (r : Inside) (now : Reader) → reader_of r ≡ now → IsPlaced r → decision now ≡ None → r.end - r.start ≤ r.line_limit
+pub front-short : (r : Inside) (now : Reader) → reader_of r ≡ now → IsPlaced r → decided now ≡ None → r.end - r.start ≤ r.line_limit
 front-short r now view placed none =
-    let here : decision (reader_of r) ≡ None = rw view none in
+    let here : decided (reader_of r) ≡ None = rw view none in
     let all : length (slice_range r.buffer.items r.start r.end) ≡ r.end - r.start = length-slice_range _ _ _ (omega (arith, r.buffer.ok.0, placed.ends)) in
     omega (arith, all, (undecided (reader_of r) here).1)

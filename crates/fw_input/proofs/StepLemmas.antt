@@ -4,18 +4,18 @@ use Rattle.fw_input.specs.declared.advance.Advance.{Advance}
 use Rattle.fw_input.specs.declared.advance.Advance.TheVariants as answer
 use Rattle.fw_input.specs.Lines.{Ending, Judgement, judged, next, no_line, with_line}
 use Rattle.fw_input.specs.Lines as lines
-use Rattle.fw_input.specs.Reading.{Reader, Advances, Ended, Judges, Steps, decision, outlook}
-use Rattle.fw_input.specs.Refilling.{LastStep, to_come}
+use Rattle.fw_input.specs.Reading.{Reader, Advances, Ended, Judges, Steps, decided, outlook}
+use Rattle.fw_input.specs.Refilling.{LastStep, bytes_to_come}
 use Rattle.fw_input.proofs.DecisionLemmas.{undecided}
 use Rattle.fw_input.proofs.JudgedLemmas.{by_next, judged-next}
 use Rattle.fw_input.proofs.NextLemmas as nexts
 
 -- the decision doesn't hang on the line found last
-decision-line : (r : Reader) → decision (record r { line = [] }) ≡ decision r
-unfolding decision
+decision-line : (r : Reader) → decided (record r { line = [] }) ≡ decided r
+unfolding decided
 decision-line r = refl
 
-pub still_decided : (old mid : Reader) → mid ≡ record old { line = [] } → IsSome (decision old) → IsSome (decision mid)
+pub still_decided : (old mid : Reader) → mid ≡ record old { line = [] } → IsSome (decided old) → IsSome (decided mid)
 still_decided old mid forgot decided = rw (forgot, decision-line old) decided
 
 ended-from : (ending : Ending) (mid old new : Reader) (before bytes after : List ℕ) → mid.budget ≡ old.budget → mid.line_limit ≡ old.line_limit → bytes ≡ before → Ended ending mid new bytes after → Ended ending old new before after
@@ -36,7 +36,7 @@ steps-from answer.Failed mid old new before bytes after budget limit same step =
 steps-from answer.Memory mid old new before bytes after budget limit same step = (step.0 ∙ same, step.1 ∙ budget)
 
 -- the bytes to come stay while the source is read, and then the reader makes a step over them
-pub advances-from : (a : Advance) (mid old new : Reader) (left after : Option (List ℕ)) → to_come mid.ahead after ≡ to_come old.ahead left → mid.budget ≡ old.budget → mid.line_limit ≡ old.line_limit → ((rest : List ℕ) → after ≡ Some rest → Steps a mid new (mid.ahead ++ rest) (new.ahead ++ rest)) → Advances a old new left after
+pub advances-from : (a : Advance) (mid old new : Reader) (left after : Option (List ℕ)) → bytes_to_come mid.ahead after ≡ bytes_to_come old.ahead left → mid.budget ≡ old.budget → mid.line_limit ≡ old.line_limit → ((rest : List ℕ) → after ≡ Some rest → Steps a mid new (mid.ahead ++ rest) (new.ahead ++ rest)) → Advances a old new left after
 advances-from a mid old new (Some left) (Some after) bytes budget limit step =
     let same : mid.ahead ++ after ≡ old.ahead ++ left = cc in
     steps-from a mid old new _ _ _ budget limit same (step after refl)
@@ -45,7 +45,7 @@ advances-from a mid old new None (Some after) bytes budget limit step = cc
 advances-from a mid old new None None bytes budget limit step = tt
 
 -- the last step is one over the bytes ahead alone
-pub last-step : (a : Advance) (old new : Reader) → decision old ≡ None → LastStep a old new → Steps a old new old.ahead new.ahead
+pub last-step : (a : Advance) (old new : Reader) → decided old ≡ None → LastStep a old new → Steps a old new old.ahead new.ahead
 last-step answer.Line old new none last =
     let whole = undecided old none in
     let line : next old.line_limit old.budget old.ahead ≡ lines.Line old.ahead [] = nexts.next-last _ _ _ whole.0 whole.2 whole.1 last.4 in
@@ -60,12 +60,12 @@ last-step answer.InputTooLong old new none last = absurd last
 last-step answer.Failed old new none last = absurd last
 last-step answer.Memory old new none last = absurd last
 
-pub last-step-over : (a : Advance) (old new : Reader) (left : Option (List ℕ)) → (decision old ≡ None) × IfSome left (λ bytes. bytes ≡ []) → LastStep a old new → (rest : List ℕ) → left ≡ Some rest → Steps a old new (old.ahead ++ rest) (new.ahead ++ rest)
+pub last-step-over : (a : Advance) (old new : Reader) (left : Option (List ℕ)) → (decided old ≡ None) × IfSome left (λ bytes. bytes ≡ []) → LastStep a old new → (rest : List ℕ) → left ≡ Some rest → Steps a old new (old.ahead ++ rest) (new.ahead ++ rest)
 last-step-over a old new left ends last rest is =
     let none : rest ≡ [] = rw is at ends.1 in
     rw (none, append-nil old.ahead, append-nil new.ahead) (last-step a old new ends.0 last)
 
-pub last-short : (a : Advance) (old new : Reader) → decision old ≡ None → LastStep a old new → a ≡ answer.Line → length new.line ≤ new.line_limit
+pub last-short : (a : Advance) (old new : Reader) → decided old ≡ None → LastStep a old new → a ≡ answer.Line → length new.line ≤ new.line_limit
 last-short answer.Line old new none last line = rw (last.1, last.3) (undecided old none).1
 last-short answer.End old new none last line = cc
 last-short answer.LineTooLong old new none last line = cc

@@ -52,15 +52,15 @@ no_line ending = record { lines = []; ending = ending }
 -- What comes next of some bytes: a line, with the bytes that follow it and its LF, or the end.
 pub data Next : Type 0 where
   Line : (line rest : List ℕ) → Next
-  Ends : Ending → Next
+  Over : Ending → Next
 
 -- What comes next, where so many bytes (the budget) are still within the input limit.
 unfoldable pub next : (line_limit budget : ℕ) → List ℕ → Next
 next line_limit budget bytes =
     let within = take budget bytes in
     let line = before_first is_lf within in
-    if nat_lt line_limit (length line) then Ends LineTooLong
+    if nat_lt line_limit (length line) then Over LineTooLong
     else if nat_lt (length line) (length within) then Line line (drop (length line + 1) bytes)
-    else if nat_lt budget (length bytes) then Ends InputTooLong
-    else if length bytes == 0 then Ends End
+    else if nat_lt budget (length bytes) then Over InputTooLong
+    else if length bytes == 0 then Over End
     else Line bytes []

@@ -18,8 +18,8 @@ pub record Reader : Type 0 where
 
 -- What the bytes ahead decide by themselves, whatever follows them: their first line is longer than a
 -- line may be, or its LF is there, or there are more bytes than the input may have.
-unfoldable pub decision : Reader → Option Advance
-decision reader =
+unfoldable pub decided : Reader → Option Advance
+decided reader =
     let within = take reader.budget reader.ahead in
     let line = before_first is_lf within in
     if nat_lt reader.line_limit (length line) then Some answer.LineTooLong
@@ -29,7 +29,7 @@ decision reader =
 
 -- An ending came next; nothing was spent.
 pub record Ended (ending : Ending) (old new : Reader) (before after : List ℕ) : Type 0 where
-  pub next : next old.line_limit old.budget before ≡ lines.Ends ending
+  pub next : next old.line_limit old.budget before ≡ lines.Over ending
   pub bytes : after ≡ before
   pub budget : new.budget ≡ old.budget
 

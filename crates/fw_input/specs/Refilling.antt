@@ -8,7 +8,7 @@ use Rattle.fw_input.specs.declared.advance.Advance.TheVariants as answer
 use Rattle.fw_input.specs.declared.buffer.Refill.{Refill}
 use Rattle.fw_input.specs.declared.buffer.Refill.TheVariants as refill
 use Rattle.fw_input.specs.Lines.{is_lf}
-use Rattle.fw_input.specs.Reading.{Reader, decision}
+use Rattle.fw_input.specs.Reading.{Reader, decided}
 
 -- The decision by numbers: `first` of the `all` bytes ahead stand before their first LF.
 abbrev pub choice : (line_limit budget first all : ℕ) → Option Advance
@@ -19,8 +19,8 @@ choice line_limit budget first all =
     else None
 
 -- The bytes to come: those ahead, and then what the source has left.
-abbrev pub to_come : (ahead : List ℕ) → (left : Option (List ℕ)) → Option (List ℕ)
-to_come ahead left = option_map (λ bytes. ahead ++ bytes) left
+abbrev pub bytes_to_come : (ahead : List ℕ) → (left : Option (List ℕ)) → Option (List ℕ)
+bytes_to_come ahead left = option_map (λ bytes. ahead ++ bytes) left
 
 -- Bytes came behind those ahead exactly where the read gave some.
 abbrev pub Grows : Refill → (old new : List ℕ) (left : Option (List ℕ)) → Type 0
@@ -34,27 +34,27 @@ pub record Fills (outcome : Refill) (count : ℕ) (front items : List ℕ) (left
   pub holds : length front + count ≤ length items
   pub kept : take (length front) items ≡ front
   pub grows : Grows outcome front (take (length front + count) items) left_after
-  pub bytes : to_come (take (length front + count) items) left_after ≡ to_come front left
+  pub bytes : bytes_to_come (take (length front + count) items) left_after ≡ bytes_to_come front left
 
 -- Only bytes from the source came behind those ahead.
 pub record Refills (outcome : Refill) (old new : Reader) (left left_after : Option (List ℕ)) : Type 0 where
   pub grows : Grows outcome old.ahead new.ahead left_after
-  pub bytes : to_come new.ahead left_after ≡ to_come old.ahead left
+  pub bytes : bytes_to_come new.ahead left_after ≡ bytes_to_come old.ahead left
   pub budget : new.budget ≡ old.budget
   pub line : new.line ≡ []
   pub line_limit : new.line_limit ≡ old.line_limit
 
 -- Reads went on while the bytes ahead decided nothing.
 abbrev pub GoesOn : Refill → Reader → (left : Option (List ℕ)) → Type 0
-GoesOn refill.Bytes new left = IsSome (decision new)
-GoesOn refill.End new left = (decision new ≡ None) × IfSome left (λ bytes. bytes ≡ [])
-GoesOn refill.Failed new left = decision new ≡ None
-GoesOn refill.Memory new left = decision new ≡ None
+GoesOn refill.Bytes new left = IsSome (decided new)
+GoesOn refill.End new left = (decided new ≡ None) × IfSome left (λ bytes. bytes ≡ [])
+GoesOn refill.Failed new left = decided new ≡ None
+GoesOn refill.Memory new left = decided new ≡ None
 
 -- What reads come to: only bytes from the source came behind those ahead, and none where they decided.
 pub record ReadsOn (outcome : Refill) (old new : Reader) (left left_after : Option (List ℕ)) : Type 0 where
   pub goes_on : GoesOn outcome new left_after
-  pub bytes : to_come new.ahead left_after ≡ to_come old.ahead left
+  pub bytes : bytes_to_come new.ahead left_after ≡ bytes_to_come old.ahead left
   pub budget : new.budget ≡ old.budget
   pub line : new.line ≡ []
   pub line_limit : new.line_limit ≡ old.line_limit

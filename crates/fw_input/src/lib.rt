@@ -5,8 +5,6 @@
 mod advance;
 mod buffer;
 mod line_reader;
-#[cfg(test)]
-mod tests;
 
 pub use advance::Advance;
 pub use line_reader::LineReader;

@@ -3,7 +3,7 @@ ghost use Rattle.std.specs.Prelude.{◌≡◌, ℕ, ◌+◌, ◌-◌, ◌<◌, �
 ghost use Rattle.std.specs.List.{before_first, after_first, position_or_len};
 ghost use Rattle.fw_base.specs.Causes.{Rose};
 ghost use Rattle.fw_input.specs.Lines.{is_lf};
-ghost use Rattle.fw_input.specs.Reading.{decision, outlook, Advances, Judges, Steps};
+ghost use Rattle.fw_input.specs.Reading.{decided, outlook, Advances, Judges, Steps};
 ghost use Rattle.fw_input.specs.Refilling.{choice, Decides, HasLine, LastStep, ReadsOn, Refills};
 
 use super::Advance;
@@ -79,7 +79,7 @@ impl LineReader {
 
     /// Whether the next advance needs no read.
     pub fn has_line(&self) -> bool
-        ensures { result ≡ is_some (decision self.now) }
+        ensures { result ≡ is_some (decided self.now) }
     {
         self.decided().is_some()
     }
@@ -97,8 +97,8 @@ impl LineReader {
         ensures spends { result ≡ Advance.Line → self.new.budget < self.old.budget }
         ensures short { result ≡ Advance.Line → length self.new.line ≤ self.new.line_limit }
         ensures no_line { (result ≡ Advance.Line → ⊥) → self.new.line ≡ [] }
-        ensures no_read { IsSome (decision self.old) → (S.left source.new ≡ S.left source.old) × (S.faults source.new ≡ S.faults source.old) }
-        ensures undecided { (result ≡ Advance.Failed) ⊎ (result ≡ Advance.Memory) → decision self.new ≡ None }
+        ensures no_read { IsSome (decided self.old) → (S.left source.new ≡ S.left source.old) × (S.faults source.new ≡ S.faults source.old) }
+        ensures undecided { (result ≡ Advance.Failed) ⊎ (result ≡ Advance.Memory) → decided self.new ≡ None }
         ensures counted { S.faults source.old ≤ S.faults source.new }
         ensures cause { result ≡ Advance.Failed → Rose (S.faults source.old) (S.faults source.new) }
     {
@@ -115,7 +115,7 @@ impl LineReader {
     fn read_on<S: Source>(&mut self, source: &mut S) -> Refill
         requires { self.old.line ≡ [] }
         ensures reads { ReadsOn result self.old self.new (S.left source.old) (S.left source.new) }
-        ensures no_read { IsSome (decision self.old) → (self.new ≡ self.old) × (S.left source.new ≡ S.left source.old) × (S.faults source.new ≡ S.faults source.old) }
+        ensures no_read { IsSome (decided self.old) → (self.new ≡ self.old) × (S.left source.new ≡ S.left source.old) × (S.faults source.new ≡ S.faults source.old) }
         ensures counted { S.faults source.old ≤ S.faults source.new }
         ensures cause { result ≡ Refill.Failed → Rose (S.faults source.old) (S.faults source.new) }
     {
@@ -130,7 +130,7 @@ impl LineReader {
 
     /// Takes what the bytes ahead decide.
     fn take_decided(&mut self) -> Advance
-        requires decided { IsSome (decision self.old) }
+        requires decided { IsSome (decided self.old) }
         requires line { self.old.line ≡ [] }
         ensures step { (more : List ℕ) → Steps result self.old self.new (self.old.ahead ++ more) (self.new.ahead ++ more) }
         ensures answer { Decides result }
@@ -152,7 +152,7 @@ impl LineReader {
 
     /// What the bytes ahead decide by themselves.
     fn decided(&self) -> Option<Advance>
-        ensures { result ≡ decision self.now }
+        ensures { result ≡ decided self.now }
     {
         let first = self.line_end - self.start;
         let all = self.end - self.start;
@@ -184,7 +184,7 @@ impl LineReader {
 
     /// Takes what stands ahead at the end of the input: a line without its LF, or nothing.
     fn take_last(&mut self) -> Advance
-        requires undecided { decision self.old ≡ None }
+        requires undecided { decided self.old ≡ None }
         requires line { self.old.line ≡ [] }
         ensures { LastStep result self.old self.new }
     {
@@ -201,7 +201,7 @@ impl LineReader {
 
     /// Reads once, behind the bytes ahead.
     fn refill<S: Source>(&mut self, source: &mut S) -> Refill
-        requires undecided { decision self.old ≡ None }
+        requires undecided { decided self.old ≡ None }
         requires line { self.old.line ≡ [] }
         ensures refills { Refills result self.old self.new (S.left source.old) (S.left source.new) }
         ensures counted { S.faults source.old ≤ S.faults source.new }

@@ -1,9 +1,9 @@
 -- Decimal numbers without a sign and without a leading zero.
 use Rattle.std.specs.Prelude.{ℕ, ◌==◌, nat_le, Bool, false, not, ◌&&◌, if◌then◌else◌, List, [], ◌∷◌, Option, None, Some}
 use Rattle.std.specs.Char.{is_ascii_digit}
-use Rattle.std.specs.Option.{option_and_then}
 use Rattle.std.specs.Str.{all_ascii_digits}
 use Rattle.std.specs.Str.Parse.{digits_value, digits_value_after}
+use Rattle.fw_text.specs.Steps.{◌>>=◌}
 
 -- whether a text is one digit, or digits of which the first isn't `0`
 abbrev pub is_decimal : List ℕ → Bool
@@ -21,7 +21,7 @@ at_most most n = if nat_le n most then Some n else None
 
 -- the number that a text spells, where it is at most a bound
 abbrev pub number_to : ℕ → List ℕ → Option ℕ
-number_to most text = option_and_then (at_most most) (number text)
+number_to most text = number text >>= at_most most
 
 -- the number that digits spell behind the digits of `before`, leading zeros allowed, where it is at most a bound
 abbrev pub digits_to : ℕ → ℕ → List ℕ → Option ℕ

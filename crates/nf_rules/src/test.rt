@@ -1,7 +1,5 @@
 //! What rules ask about packets.
-use fw_addr::{
-    CtState, Family, Iface, Limit, Mac, Net, PktType, PortProto, PortRange, Proto,
-};
+use fw_addr::{CtState, Family, Iface, Limit, Mac, Net, PktType, PortProto, PortRange, Proto};
 use fw_base::{Memory, Text, TryCopy};
 use std::alloc::Global;
 

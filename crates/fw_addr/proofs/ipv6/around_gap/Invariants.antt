@@ -1,6 +1,0 @@
--- No `::` begins before the last byte seen.
-use Rattle.std.proofs.Common.{◌≡◌, ℕ, ◌+◌, ◌<◌, get_or}
-use Rattle.fw_addr.proofs.ipv6.around_gap.Given as goal
-
-abbrev pub invariant-loop-place : goal.invariant-loop-place
-invariant-loop-place l = (k : ℕ) → k + 1 < l.place → get_or l.text k 0 ≡ 58 → get_or l.text (k + 1) 0 ≡ 58 → ⊥

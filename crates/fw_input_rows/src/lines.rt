@@ -1,0 +1,2 @@
+use fw_base::ListSource;
+use fw_input::{Advance, LineReader};
