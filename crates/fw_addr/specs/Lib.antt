@@ -9,4 +9,5 @@ pub mod Nets
 pub mod Ports
 pub mod Protocols
 pub mod Subnets
+pub mod Targets
 pub mod WellFormed

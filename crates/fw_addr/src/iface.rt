@@ -7,12 +7,12 @@ ghost use Rattle.fw_addr.specs.Interfaces.{interface, is_interface, is_interface
 use super::AddrError;
 use arrayvec::ArrayString;
 use fw_base::{Memory, TryCopy};
-use std::alloc::Global;
+use std::alloc::{AllocError, Global};
 use std::fmt;
 use std::marker::Model;
 
 /// An interface's name, or a prefix and `+`, which stands for every name with that prefix. Contracts see its bytes.
-#[derive(Clone, Debug, Drop)]
+#[derive(Debug, Drop)]
 pub struct Iface {
     name: ArrayString<15>,
 }
@@ -46,6 +46,14 @@ impl Iface {
             Some(front) => name.as_bytes().starts_with(front),
             None => name.as_bytes() == entry,
         }
+    }
+}
+
+impl Clone for Iface {
+    ghost is_clone = { λ iface copied. copied ≡ iface };
+
+    fn clone(&self) -> Result<Iface, AllocError> {
+        Ok(Iface { name: self.name })
     }
 }
 

@@ -81,7 +81,7 @@ impl fmt::Display for Level {
 }
 
 /// A line of the log.
-#[derive(Clone, Drop)]
+#[derive(Clone, Debug, PartialEq, Eq, Drop)]
 pub struct LogLine {
     pub kind: LogKind,
     pub level: Level,

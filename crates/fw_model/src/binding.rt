@@ -5,7 +5,7 @@ use std::alloc::Global;
 
 /// Which senders are meant: those of a net, of a hardware address, or of the ipset of a name
 /// (firewalld.zone(5), `source`).
-#[derive(Drop)]
+#[derive(Clone, Debug, PartialEq, Eq, Drop)]
 pub enum Binding {
     Net(Net),
     Mac(Mac),
@@ -13,11 +13,7 @@ pub enum Binding {
 }
 
 impl TryCopy for Binding {
-    fn copy(&self, alloc: Global) -> Result<Binding, Memory> {
-        match self {
-            Binding::Net(net) => Ok(Binding::Net(*net)),
-            Binding::Mac(mac) => Ok(Binding::Mac(*mac)),
-            Binding::Set(name) => Ok(Binding::Set(name.copy(alloc)?)),
-        }
+    fn copy(&self, _alloc: Global) -> Result<Binding, Memory> {
+        Ok(self.clone()?)
     }
 }

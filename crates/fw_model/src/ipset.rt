@@ -19,7 +19,7 @@ pub enum Item {
 }
 
 /// A set of addresses (firewalld.ipset(5)).
-#[derive(Drop)]
+#[derive(Clone, Debug, PartialEq, Eq, Drop)]
 pub struct IpSet {
     pub name: Text,
     pub kind: SetKind,
@@ -30,14 +30,9 @@ pub struct IpSet {
     pub items: Seq<Item>,
 }
 
+
 impl TryCopy for IpSet {
-    fn copy(&self, alloc: Global) -> Result<IpSet, Memory> {
-        Ok(IpSet {
-            name: self.name.copy(alloc)?,
-            kind: self.kind,
-            family: self.family,
-            timeout: self.timeout,
-            items: self.items.copy(alloc)?,
-        })
+    fn copy(&self, _alloc: Global) -> Result<IpSet, Memory> {
+        Ok(self.clone()?)
     }
 }

@@ -3,7 +3,7 @@ use fw_base::{Memory, Text, TryCopy};
 use std::alloc::Global;
 
 /// Texts without effect on packets (firewalld.zone(5) and firewalld.policy(5), `version`, `short`, `description`).
-#[derive(Drop)]
+#[derive(Clone, Debug, PartialEq, Eq, Drop)]
 pub struct Notes {
     pub version: Text,
     pub short: Text,
@@ -11,11 +11,7 @@ pub struct Notes {
 }
 
 impl TryCopy for Notes {
-    fn copy(&self, alloc: Global) -> Result<Notes, Memory> {
-        Ok(Notes {
-            version: self.version.copy(alloc)?,
-            short: self.short.copy(alloc)?,
-            description: self.description.copy(alloc)?,
-        })
+    fn copy(&self, _alloc: Global) -> Result<Notes, Memory> {
+        Ok(self.clone()?)
     }
 }

@@ -16,7 +16,7 @@ pub enum Verdict {
 }
 
 /// A packet's verdict, and what else was done with it.
-#[derive(Clone, Drop)]
+#[derive(Clone, Debug, PartialEq, Eq, Drop)]
 pub struct Outcome {
     pub verdict: Verdict,
     /// The packet's mark.

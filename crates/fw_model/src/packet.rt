@@ -4,14 +4,14 @@ use fw_base::{Memory, Seq, Text, TryCopy, copy_pairs};
 use std::alloc::Global;
 
 /// Where a packet comes from: the host itself, or a link, by the name of its interface.
-#[derive(Clone, Drop)]
+#[derive(Clone, Debug, PartialEq, Eq, Drop)]
 pub enum Origin {
     Host,
     Link(Text),
 }
 
 /// Where a route leads: to the host itself, or out by a link, by the name of its interface.
-#[derive(Drop)]
+#[derive(Clone, Debug, PartialEq, Eq, Drop)]
 pub enum Via {
     Local,
     Link(Text),
@@ -19,7 +19,7 @@ pub enum Via {
 
 /// A packet, and what the host around it knows: the state of its connection, the limits that pass now, and the
 /// routes.
-#[derive(Drop)]
+#[derive(Debug, PartialEq, Eq, Drop)]
 pub struct Packet {
     pub origin: Origin,
     pub src: Addr,
@@ -52,11 +52,8 @@ impl TryCopy for Origin {
 }
 
 impl TryCopy for Via {
-    fn copy(&self, alloc: Global) -> Result<Via, Memory> {
-        match self {
-            Via::Local => Ok(Via::Local),
-            Via::Link(name) => Ok(Via::Link(name.copy(alloc)?)),
-        }
+    fn copy(&self, _alloc: Global) -> Result<Via, Memory> {
+        Ok(self.clone()?)
     }
 }
 

@@ -14,7 +14,7 @@ pub enum PolicyTarget {
 }
 
 /// A policy (firewalld.policy(5) and firewalld.policies(5)).
-#[derive(Drop)]
+#[derive(Clone, Debug, PartialEq, Eq, Drop)]
 pub struct Policy {
     pub name: Text,
     pub notes: Notes,
@@ -29,15 +29,7 @@ pub struct Policy {
 }
 
 impl TryCopy for Policy {
-    fn copy(&self, alloc: Global) -> Result<Policy, Memory> {
-        Ok(Policy {
-            name: self.name.copy(alloc)?,
-            notes: self.notes.copy(alloc)?,
-            target: self.target,
-            priority: self.priority,
-            ingress: self.ingress.copy(alloc)?,
-            egress: self.egress.copy(alloc)?,
-            rules: self.rules.copy(alloc)?,
-        })
+    fn copy(&self, _alloc: Global) -> Result<Policy, Memory> {
+        Ok(self.clone()?)
     }
 }

@@ -5,7 +5,7 @@ use fw_base::{Memory, Text, TryCopy, copy_option};
 use std::alloc::Global;
 
 /// A rich rule: which packets it is about, and what is done with them. An absent part is about all packets.
-#[derive(Drop)]
+#[derive(Clone, Debug, PartialEq, Eq, Drop)]
 pub struct Rich {
     /// Its place among rules, from -32768 to 32767, the lowest first.
     pub priority: i32,
@@ -20,14 +20,14 @@ pub struct Rich {
 }
 
 /// Where packets come from or go to, or with `not` where they don't (`source`, `destination`).
-#[derive(Drop)]
+#[derive(Clone, Debug, PartialEq, Eq, Drop)]
 pub struct Side {
     pub not: bool,
     pub what: Binding,
 }
 
 /// What a rule is about besides addresses, or what it does in place of an action.
-#[derive(Drop)]
+#[derive(Clone, Debug, PartialEq, Eq, Drop)]
 pub enum Element {
     Service(Text),
     Port(Port),
@@ -41,7 +41,7 @@ pub enum Element {
 }
 
 /// A log line for each packet (`log`).
-#[derive(Drop)]
+#[derive(Clone, Debug, PartialEq, Eq, Drop)]
 pub struct RichLog {
     /// What the line begins with; it may be empty.
     pub prefix: Text,
@@ -83,35 +83,19 @@ impl TryCopy for Rich {
 }
 
 impl TryCopy for Side {
-    fn copy(&self, alloc: Global) -> Result<Side, Memory> {
-        Ok(Side {
-            not: self.not,
-            what: self.what.copy(alloc)?,
-        })
+    fn copy(&self, _alloc: Global) -> Result<Side, Memory> {
+        Ok(self.clone()?)
     }
 }
 
 impl TryCopy for Element {
-    fn copy(&self, alloc: Global) -> Result<Element, Memory> {
-        match self {
-            Element::Service(name) => Ok(Element::Service(name.copy(alloc)?)),
-            Element::Port(port) => Ok(Element::Port(*port)),
-            Element::Protocol(protocol) => Ok(Element::Protocol(*protocol)),
-            Element::IcmpBlock(name) => Ok(Element::IcmpBlock(name.copy(alloc)?)),
-            Element::IcmpType(name) => Ok(Element::IcmpType(name.copy(alloc)?)),
-            Element::Masquerade => Ok(Element::Masquerade),
-            Element::SourcePort(port) => Ok(Element::SourcePort(*port)),
-            Element::Forward(forward) => Ok(Element::Forward(*forward)),
-        }
+    fn copy(&self, _alloc: Global) -> Result<Element, Memory> {
+        Ok(self.clone()?)
     }
 }
 
 impl TryCopy for RichLog {
-    fn copy(&self, alloc: Global) -> Result<RichLog, Memory> {
-        Ok(RichLog {
-            prefix: self.prefix.copy(alloc)?,
-            level: self.level,
-            limit: self.limit,
-        })
+    fn copy(&self, _alloc: Global) -> Result<RichLog, Memory> {
+        Ok(self.clone()?)
     }
 }

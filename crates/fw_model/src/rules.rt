@@ -5,7 +5,7 @@ use fw_base::{Memory, Seq, Text, TryCopy};
 use std::alloc::Global;
 
 /// What a zone or a policy lets in, blocks and translates (firewalld.zone(5) and firewalld.policy(5)).
-#[derive(Drop)]
+#[derive(Clone, Debug, PartialEq, Eq, Drop)]
 pub struct Rules {
     /// Services that are let in, by their names.
     pub services: Seq<Text>,
@@ -21,16 +21,7 @@ pub struct Rules {
 }
 
 impl TryCopy for Rules {
-    fn copy(&self, alloc: Global) -> Result<Rules, Memory> {
-        Ok(Rules {
-            services: self.services.copy(alloc)?,
-            ports: self.ports.copy(alloc)?,
-            protocols: self.protocols.copy(alloc)?,
-            source_ports: self.source_ports.copy(alloc)?,
-            icmp_blocks: self.icmp_blocks.copy(alloc)?,
-            masquerade: self.masquerade,
-            forwards: self.forwards.copy(alloc)?,
-            rich: self.rich.copy(alloc)?,
-        })
+    fn copy(&self, _alloc: Global) -> Result<Rules, Memory> {
+        Ok(self.clone()?)
     }
 }

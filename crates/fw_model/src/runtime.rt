@@ -4,7 +4,7 @@ use fw_base::{Memory, TryCopy};
 use std::alloc::Global;
 
 /// What the firewall does now (firewalld(1), "Runtime configuration").
-#[derive(Drop)]
+#[derive(Clone, Debug, PartialEq, Eq, Drop)]
 pub struct Runtime {
     /// Whether every packet is dropped.
     pub panic: bool,
@@ -12,10 +12,7 @@ pub struct Runtime {
 }
 
 impl TryCopy for Runtime {
-    fn copy(&self, alloc: Global) -> Result<Runtime, Memory> {
-        Ok(Runtime {
-            panic: self.panic,
-            config: self.config.copy(alloc)?,
-        })
+    fn copy(&self, _alloc: Global) -> Result<Runtime, Memory> {
+        Ok(self.clone()?)
     }
 }

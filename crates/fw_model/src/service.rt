@@ -5,7 +5,7 @@ use fw_base::{Memory, Seq, Text, TryCopy};
 use std::alloc::Global;
 
 /// A service (firewalld.service(5)).
-#[derive(Drop)]
+#[derive(Clone, Debug, PartialEq, Eq, Drop)]
 pub struct Service {
     pub name: Text,
     /// Services that are part of this one, by their names.
@@ -20,15 +20,7 @@ pub struct Service {
 }
 
 impl TryCopy for Service {
-    fn copy(&self, alloc: Global) -> Result<Service, Memory> {
-        Ok(Service {
-            name: self.name.copy(alloc)?,
-            includes: self.includes.copy(alloc)?,
-            ports: self.ports.copy(alloc)?,
-            protocols: self.protocols.copy(alloc)?,
-            source_ports: self.source_ports.copy(alloc)?,
-            v4: self.v4,
-            v6: self.v6,
-        })
+    fn copy(&self, _alloc: Global) -> Result<Service, Memory> {
+        Ok(self.clone()?)
     }
 }

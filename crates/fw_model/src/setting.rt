@@ -5,7 +5,7 @@ use fw_base::{Memory, Text, TryCopy};
 use std::alloc::Global;
 
 /// A setting that a zone or a policy may have or not.
-#[derive(Drop)]
+#[derive(Clone, Debug, PartialEq, Eq, Drop)]
 pub enum Setting {
     Service(Text),
     Port(Port),
@@ -18,7 +18,7 @@ pub enum Setting {
 }
 
 /// A setting of a zone that ends by itself.
-#[derive(Drop)]
+#[derive(Clone, Debug, PartialEq, Eq, Drop)]
 pub struct Timed {
     /// The time at which it ends, in seconds.
     pub deadline: u64,

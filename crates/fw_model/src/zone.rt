@@ -16,7 +16,7 @@ pub enum ZoneTarget {
 }
 
 /// A zone (firewalld.zone(5)).
-#[derive(Drop)]
+#[derive(Clone, Debug, PartialEq, Eq, Drop)]
 pub struct Zone {
     pub name: Text,
     pub notes: Notes,
@@ -31,16 +31,7 @@ pub struct Zone {
 }
 
 impl TryCopy for Zone {
-    fn copy(&self, alloc: Global) -> Result<Zone, Memory> {
-        Ok(Zone {
-            name: self.name.copy(alloc)?,
-            notes: self.notes.copy(alloc)?,
-            target: self.target,
-            rules: self.rules.copy(alloc)?,
-            inversion: self.inversion,
-            forward: self.forward,
-            interfaces: self.interfaces.copy(alloc)?,
-            sources: self.sources.copy(alloc)?,
-        })
+    fn copy(&self, _alloc: Global) -> Result<Zone, Memory> {
+        Ok(self.clone()?)
     }
 }

@@ -30,7 +30,7 @@ pub struct Base {
 }
 
 /// A list of rules under a name. One without a base runs only where a rule leads to it.
-#[derive(Drop)]
+#[derive(Clone, Debug, PartialEq, Eq, Drop)]
 pub struct Chain {
     pub name: Text,
     pub base: Option<Base>,
@@ -38,11 +38,7 @@ pub struct Chain {
 }
 
 impl TryCopy for Chain {
-    fn copy(&self, alloc: Global) -> Result<Chain, Memory> {
-        Ok(Chain {
-            name: self.name.copy(alloc)?,
-            base: self.base,
-            rules: self.rules.copy(alloc)?,
-        })
+    fn copy(&self, _alloc: Global) -> Result<Chain, Memory> {
+        Ok(self.clone()?)
     }
 }

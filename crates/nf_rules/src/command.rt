@@ -4,7 +4,7 @@ use fw_base::{Memory, Text, TryCopy};
 use std::alloc::Global;
 
 /// One change of a ruleset (nft(8), "RULESET" and the commands of its parts).
-#[derive(Drop)]
+#[derive(Debug, PartialEq, Eq, Drop)]
 pub enum Command {
     /// All chains, sets and maps go.
     Clear,

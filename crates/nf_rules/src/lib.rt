@@ -5,6 +5,7 @@
 mod chain;
 mod command;
 mod map;
+mod printing;
 mod rule;
 mod ruleset;
 mod set;
@@ -14,6 +15,7 @@ mod test;
 pub use chain::{Base, Chain, ChainKind, Hook};
 pub use command::Command;
 pub use map::{MapBody, NfMap};
+pub use printing::print;
 pub use rule::{Match, Rule};
 pub use ruleset::Ruleset;
 pub use set::{NfSet, SetBody};

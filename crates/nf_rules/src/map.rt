@@ -5,14 +5,14 @@ use std::alloc::Global;
 
 /// Keys, each with the name of the chain that it leads to (nft(8), "MAPS"). Keys don't overlap, and no interface
 /// ends in `+`.
-#[derive(Drop)]
+#[derive(Debug, PartialEq, Eq, Drop)]
 pub enum MapBody {
     Ifaces(Seq<(Iface, Text)>),
     Nets(Seq<(Net, Text)>),
 }
 
 /// A map under a name.
-#[derive(Drop)]
+#[derive(Debug, PartialEq, Eq, Drop)]
 pub struct NfMap {
     pub name: Text,
     pub body: MapBody,

@@ -4,33 +4,27 @@ use fw_base::{Memory, Seq, TryCopy};
 use std::alloc::Global;
 
 /// A test, or with `not` its opposite.
-#[derive(Drop)]
+#[derive(Clone, Debug, PartialEq, Eq, Drop)]
 pub struct Match {
     pub not: bool,
     pub test: Test,
 }
 
 /// Where all of its matches hold, a rule does its statements in order.
-#[derive(Drop)]
+#[derive(Clone, Debug, PartialEq, Eq, Drop)]
 pub struct Rule {
     pub matches: Seq<Match>,
     pub stmts: Seq<Stmt>,
 }
 
 impl TryCopy for Match {
-    fn copy(&self, alloc: Global) -> Result<Match, Memory> {
-        Ok(Match {
-            not: self.not,
-            test: self.test.copy(alloc)?,
-        })
+    fn copy(&self, _alloc: Global) -> Result<Match, Memory> {
+        Ok(self.clone()?)
     }
 }
 
 impl TryCopy for Rule {
-    fn copy(&self, alloc: Global) -> Result<Rule, Memory> {
-        Ok(Rule {
-            matches: self.matches.copy(alloc)?,
-            stmts: self.stmts.copy(alloc)?,
-        })
+    fn copy(&self, _alloc: Global) -> Result<Rule, Memory> {
+        Ok(self.clone()?)
     }
 }

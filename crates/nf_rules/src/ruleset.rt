@@ -4,7 +4,7 @@ use fw_base::{Memory, Seq, TryCopy};
 use std::alloc::Global;
 
 /// The table `inet firewalld`: its chains, sets and maps, each in order of their names.
-#[derive(Drop)]
+#[derive(Debug, PartialEq, Eq, Drop)]
 pub struct Ruleset {
     pub chains: Seq<Chain>,
     pub sets: Seq<NfSet>,

@@ -4,7 +4,7 @@ use fw_base::{Memory, Seq, Text, TryCopy};
 use std::alloc::Global;
 
 /// What a set holds (nft(8), "SETS"). Elements may overlap.
-#[derive(Drop)]
+#[derive(Clone, Debug, PartialEq, Eq, Drop)]
 pub enum SetBody {
     Nets(Seq<Net>),
     Macs(Seq<Mac>),
@@ -12,27 +12,20 @@ pub enum SetBody {
 }
 
 /// A set under a name.
-#[derive(Drop)]
+#[derive(Clone, Debug, PartialEq, Eq, Drop)]
 pub struct NfSet {
     pub name: Text,
     pub body: SetBody,
 }
 
 impl TryCopy for SetBody {
-    fn copy(&self, alloc: Global) -> Result<SetBody, Memory> {
-        match self {
-            SetBody::Nets(nets) => Ok(SetBody::Nets(nets.copy(alloc)?)),
-            SetBody::Macs(macs) => Ok(SetBody::Macs(macs.copy(alloc)?)),
-            SetBody::Ports(ports) => Ok(SetBody::Ports(ports.copy(alloc)?)),
-        }
+    fn copy(&self, _alloc: Global) -> Result<SetBody, Memory> {
+        Ok(self.clone()?)
     }
 }
 
 impl TryCopy for NfSet {
-    fn copy(&self, alloc: Global) -> Result<NfSet, Memory> {
-        Ok(NfSet {
-            name: self.name.copy(alloc)?,
-            body: self.body.copy(alloc)?,
-        })
+    fn copy(&self, _alloc: Global) -> Result<NfSet, Memory> {
+        Ok(self.clone()?)
     }
 }

@@ -4,7 +4,7 @@ use fw_base::{Memory, Text, TryCopy};
 use std::alloc::Global;
 
 /// What is done with a packet (nft(8), "STATEMENTS"). Chains and maps are meant by their names.
-#[derive(Drop)]
+#[derive(Clone, Debug, PartialEq, Eq, Drop)]
 pub enum Stmt {
     Accept,
     Drop,
@@ -31,22 +31,7 @@ pub enum Stmt {
 }
 
 impl TryCopy for Stmt {
-    fn copy(&self, alloc: Global) -> Result<Stmt, Memory> {
-        match self {
-            Stmt::Accept => Ok(Stmt::Accept),
-            Stmt::Drop => Ok(Stmt::Drop),
-            Stmt::Reject(kind) => Ok(Stmt::Reject(*kind)),
-            Stmt::Jump(chain) => Ok(Stmt::Jump(chain.copy(alloc)?)),
-            Stmt::Goto(chain) => Ok(Stmt::Goto(chain.copy(alloc)?)),
-            Stmt::Return => Ok(Stmt::Return),
-            Stmt::Log(line) => Ok(Stmt::Log(line.copy(alloc)?)),
-            Stmt::Mark(value, mask) => Ok(Stmt::Mark(*value, *mask)),
-            Stmt::DnatTo(dnat) => Ok(Stmt::DnatTo(*dnat)),
-            Stmt::Masquerade => Ok(Stmt::Masquerade),
-            Stmt::VmapIn(map) => Ok(Stmt::VmapIn(map.copy(alloc)?)),
-            Stmt::VmapOut(map) => Ok(Stmt::VmapOut(map.copy(alloc)?)),
-            Stmt::VmapSrc(map) => Ok(Stmt::VmapSrc(map.copy(alloc)?)),
-            Stmt::VmapDst(map) => Ok(Stmt::VmapDst(map.copy(alloc)?)),
-        }
+    fn copy(&self, _alloc: Global) -> Result<Stmt, Memory> {
+        Ok(self.clone()?)
     }
 }

@@ -4,7 +4,7 @@ use fw_base::{Memory, Text, TryCopy};
 use std::alloc::Global;
 
 /// A question about a packet (nft(8), "EXPRESSIONS"). Sets are meant by their names.
-#[derive(Drop)]
+#[derive(Clone, Debug, PartialEq, Eq, Drop)]
 pub enum Test {
     /// Its addresses are of this family (`meta nfproto`).
     Family(Family),
@@ -45,26 +45,7 @@ pub enum Test {
 }
 
 impl TryCopy for Test {
-    fn copy(&self, alloc: Global) -> Result<Test, Memory> {
-        match self {
-            Test::Family(family) => Ok(Test::Family(*family)),
-            Test::Src(net) => Ok(Test::Src(*net)),
-            Test::Dst(net) => Ok(Test::Dst(*net)),
-            Test::SrcSet(name) => Ok(Test::SrcSet(name.copy(alloc)?)),
-            Test::DstSet(name) => Ok(Test::DstSet(name.copy(alloc)?)),
-            Test::SrcMac(mac) => Ok(Test::SrcMac(*mac)),
-            Test::SrcMacSet(name) => Ok(Test::SrcMacSet(name.copy(alloc)?)),
-            Test::In(entry) => Ok(Test::In(entry.copy(alloc)?)),
-            Test::Out(entry) => Ok(Test::Out(entry.copy(alloc)?)),
-            Test::Proto(proto) => Ok(Test::Proto(*proto)),
-            Test::Sport(proto, range) => Ok(Test::Sport(*proto, *range)),
-            Test::Dport(proto, range) => Ok(Test::Dport(*proto, *range)),
-            Test::DportSet(proto, name) => Ok(Test::DportSet(*proto, name.copy(alloc)?)),
-            Test::Icmp(family, number) => Ok(Test::Icmp(*family, *number)),
-            Test::State(state) => Ok(Test::State(*state)),
-            Test::Dnat => Ok(Test::Dnat),
-            Test::Pkt(kind) => Ok(Test::Pkt(*kind)),
-            Test::Limit(limit) => Ok(Test::Limit(*limit)),
-        }
+    fn copy(&self, _alloc: Global) -> Result<Test, Memory> {
+        Ok(self.clone()?)
     }
 }
