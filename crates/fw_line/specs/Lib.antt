@@ -3,6 +3,5 @@ pub mod Line
 pub mod OutcomeText
 pub mod Outcomes
 pub mod Packets
-pub mod Quoted
 pub mod Steps
 pub mod Words

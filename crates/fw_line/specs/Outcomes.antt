@@ -3,8 +3,8 @@ use Rattle.std.specs.Prelude.{◌≡◌, Option, Some, None, Result, Ok, Err}
 use Rattle.fw_model.specs.Packets.{IsFirstPacket}
 use Rattle.fw_line.specs.declared.line.Line.{Line}
 use Rattle.fw_line.specs.declared.line.Line.TheVariants as line
-use Rattle.fw_line.specs.declared.error.LineError.{LineError}
-use Rattle.fw_line.specs.declared.error.LineError.TheVariants as error
+use Rattle.fw_words.specs.declared.error.LineError.{LineError}
+use Rattle.fw_words.specs.declared.error.LineError.TheVariants as error
 
 -- A reading that was refused: for want of memory alone, or since nothing is said.
 abbrev pub Refuses : {X : Type 0} → LineError → Option X → Type 0

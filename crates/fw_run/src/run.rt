@@ -3,7 +3,7 @@ ghost use Rattle.std.specs.Prelude.{◌≡◌, ℕ, ◌+◌, ◌≤◌, ◌^◌,
 ghost use Rattle.std.specs.Option.{option_map};
 ghost use Rattle.fw_base.specs.Causes.{HasCause, Rose};
 ghost use Rattle.fw_input.specs.Lines.{Judgement, judged};
-ghost use Rattle.fw_input.specs.Reading.{decision, outlook};
+ghost use Rattle.fw_input.specs.Reading.{decided, outlook};
 ghost use Rattle.fw_run.specs.Endings.{Runs};
 ghost use Rattle.fw_run.specs.Turns.{Flushes, Progress, Stopped};
 
@@ -33,7 +33,7 @@ fn flush_before_read<M: Machine, O: Sink>(
     output: &mut O,
 ) -> Result<(), Failed>
     ensures flushes { Flushes result runner.old runner.new (O.written output.old) (O.written output.new) }
-    ensures idle { OnOk result (IsNone (decision reader.now) → runner.new.unwritten ≡ []) }
+    ensures idle { OnOk result (IsNone (decided reader.now) → runner.new.unwritten ≡ []) }
     ensures cause { HasCause (O.faults output.old) (O.faults output.new) result }
 {
     if reader.has_line() {

@@ -1,7 +1,7 @@
 //! A run in its middle: the machine, the number of the next line, and what was printed and isn't written.
 ghost use Rattle.std.specs.Prelude.{◌≡◌, ◌+◌, ◌≤◌, ◌<◌, ◌^◌, [], None, Some, IsNone, IfSome, IfNone};
 ghost use Rattle.fw_base.specs.Causes.{HasCause, Rose};
-ghost use Rattle.fw_input.specs.Reading.{decision, outlook};
+ghost use Rattle.fw_input.specs.Reading.{decided, outlook};
 ghost use Rattle.fw_run.specs.Turns.{Flushes, RunsBytes, TakesLine};
 
 use super::{Ended, Machine};
@@ -16,15 +16,16 @@ use std::marker::Model;
 pub struct Runner<M> {
     machine: M,
     number: u64,
-    unwritten: Vec<u8>,
+    unwritten: String,
 }
 
 impl<M> Model for Runner<M> {
+    ghost use Rattle.std.specs.String.{string_bytes};
     ghost use Rattle.fw_run.specs.Turns.{Middle};
 
     ghost Value = { Middle M };
 
-    ghost view = { λ r. record { state = r.machine; number = r.number; unwritten = r.unwritten.items } };
+    ghost view = { λ r. record { state = r.machine; number = r.number; unwritten = string_bytes r.unwritten } };
 }
 
 impl<M: Machine> Runner<M> {
@@ -35,7 +36,7 @@ impl<M: Machine> Runner<M> {
         Runner {
             machine,
             number: 1,
-            unwritten: Vec::new(alloc),
+            unwritten: String::new(alloc),
         }
     }
 
@@ -60,7 +61,7 @@ impl<M: Machine> Runner<M> {
         input: &mut I,
     ) -> Option<Ended>
         requires number { self.old.number < 2 ^ 63 }
-        requires written { IsNone (decision reader.old) → self.old.unwritten ≡ [] }
+        requires written { IsNone (decided reader.old) → self.old.unwritten ≡ [] }
         ensures takes { TakesLine M.step result self.old self.new (outlook reader.old (I.left input.old)) (outlook reader.new (I.left input.new)) }
         ensures number { IfNone result (self.new.number + reader.new.budget ≤ self.old.number + reader.old.budget) }
         ensures spends { IfNone result (reader.new.budget < reader.old.budget) }
@@ -103,7 +104,7 @@ impl<M: Machine> Runner<M> {
         if self.unwritten.is_empty() {
             return Ok(());
         }
-        let written = output.write(self.unwritten.as_slice());
+        let written = output.write(self.unwritten.as_bytes());
         self.unwritten.clear();
         written
     }

@@ -1,8 +1,6 @@
-pub mod Machine
-pub mod Opened
-pub mod Running
+pub mod AddPort
+pub mod Ran
 pub mod Script
 pub mod State
 pub mod Statuses
-pub mod Texts
 pub mod Words

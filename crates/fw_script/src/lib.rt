@@ -2,19 +2,11 @@
 #![tactic(auto)]
 
 mod add_port;
-mod lines;
-mod machine;
-mod run;
-mod runner;
+mod open_ports;
 mod status;
-mod texts;
 mod top;
 mod words;
 
-pub use add_port::Refusal;
-pub use machine::FirstState;
-pub use status::Status;
+pub use open_ports::FirstState;
+pub use status::{Status, tell};
 pub use top::{FirstRan, top_run};
-
-#[cfg(test)]
-mod tests;

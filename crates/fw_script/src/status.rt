@@ -1,8 +1,12 @@
-//! How a run of the program ends.
-ghost use Rattle.std.specs.Prelude.{◌≡◌};
-ghost use Rattle.fw_script.specs.Statuses.{exit_number};
+//! How a run of the program ends, and what is told of it.
+ghost use Rattle.std.specs.Prelude.{◌≡◌, ◌++◌};
+ghost use Rattle.fw_base.specs.Causes.{HasCause};
+ghost use Rattle.fw_base.specs.Streams.{Writes};
+ghost use Rattle.fw_script.specs.Statuses.{Tells, exit_number, line_text, status_of};
 
-use std::fmt;
+use fw_base::{Failed, Sink};
+use fw_run::Ended;
+use itoa::Buffer;
 
 /// How a run ends. The first status that is met ends it.
 #[derive(Clone, Copy, Debug, PartialEq, Eq)]
@@ -24,37 +28,88 @@ pub enum Status {
 }
 
 impl Status {
-    /// The number with which the process ends.
-    pub fn exit_number(self) -> u8
-        ensures { result ≡ exit_number self }
+    /// The status of a script's run.
+    pub fn of(ended: Ended) -> Status
+        ensures { result ≡ status_of ended }
     {
-        match self {
-            Status::Done => 0,
-            Status::BadScript { .. } => 2,
-            Status::ReadFault => 3,
-            Status::WriteFault => 4,
-            Status::InputTooLong => 9,
-            Status::Usage => 64,
-            Status::Memory => 71,
+        match ended {
+            Ended::Done => Status::Done,
+            Ended::BadScript { line } => Status::BadScript { line },
+            Ended::InputTooLong => Status::InputTooLong,
+            Ended::ReadFault => Status::ReadFault,
+            Ended::WriteFault => Status::WriteFault,
+            Ended::Memory => Status::Memory,
         }
     }
 }
 
-impl fmt::Display for Status {
-    ghost use Rattle.std.specs.Prelude.{Some};
-    ghost use Rattle.fw_script.specs.Statuses.{status_text};
+/// Tells of a status, in one line, unless it is Done, and gives the number with which the process ends.
+///
+/// Where the line can't be written, the number is the same.
+pub fn tell<E: Sink>(status: Status, errors: &mut E) -> u8
+    ensures number { result ≡ exit_number status }
+    ensures told { Tells (line_text status) (E.written errors.old) (E.written errors.new) (E.faults errors.old) (E.faults errors.new) }
+{
+    let _ = write_line(status, errors);
+    exit_number(status)
+}
 
-    ghost output = { λ status. Some (status_text status) };
-
-    fn fmt<W: fmt::Write>(&self, f: &mut fmt::Formatter<W>) -> fmt::Result {
-        match self {
-            Status::Done => write!(f, "done"),
-            Status::BadScript { line } => write!(f, "bad-script {line}"),
-            Status::ReadFault => write!(f, "read-fault"),
-            Status::WriteFault => write!(f, "write-fault"),
-            Status::InputTooLong => write!(f, "input-too-long"),
-            Status::Usage => write!(f, "usage"),
-            Status::Memory => write!(f, "memory"),
-        }
+fn exit_number(status: Status) -> u8
+    ensures { result ≡ exit_number status }
+{
+    match status {
+        Status::Done => 0,
+        Status::BadScript { .. } => 2,
+        Status::ReadFault => 3,
+        Status::WriteFault => 4,
+        Status::InputTooLong => 9,
+        Status::Usage => 64,
+        Status::Memory => 71,
     }
+}
+
+/// Writes the line of a status.
+fn write_line<E: Sink>(status: Status, errors: &mut E) -> Result<(), Failed>
+    ensures writes { Writes (E.written errors.old) (E.written errors.new) result (line_text status) }
+    ensures cause { HasCause (E.faults errors.old) (E.faults errors.new) result }
+{
+    match status {
+        Status::Done => errors.write(b""),
+        Status::BadScript { line } => {
+            let mut buffer = Buffer::new();
+            write_three(
+                errors,
+                b"fwd: bad-script ",
+                buffer.format(line).as_bytes(),
+                b"\n",
+            )
+        }
+        Status::ReadFault => errors.write(b"fwd: read-fault\n"),
+        Status::WriteFault => errors.write(b"fwd: write-fault\n"),
+        Status::InputTooLong => errors.write(b"fwd: input-too-long\n"),
+        Status::Usage => errors.write(b"fwd: usage\n"),
+        Status::Memory => errors.write(b"fwd: memory\n"),
+    }
+}
+
+/// Writes three pieces one behind the other.
+fn write_three<E: Sink>(
+    errors: &mut E,
+    first: &[u8],
+    second: &[u8],
+    third: &[u8],
+) -> Result<(), Failed>
+    ensures writes { Writes (E.written errors.old) (E.written errors.new) result (first.now ++ (second.now ++ third.now)) }
+    ensures cause { HasCause (E.faults errors.old) (E.faults errors.new) result }
+{
+    errors.write(first)?;
+    write_two(errors, second, third)
+}
+
+fn write_two<E: Sink>(errors: &mut E, first: &[u8], second: &[u8]) -> Result<(), Failed>
+    ensures writes { Writes (E.written errors.old) (E.written errors.new) result (first.now ++ second.now) }
+    ensures cause { HasCause (E.faults errors.old) (E.faults errors.new) result }
+{
+    errors.write(first)?;
+    errors.write(second)
 }

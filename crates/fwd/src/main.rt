@@ -2,7 +2,7 @@
 #![tactic(auto)]
 
 use fw_base::{ReadSource, WriteSink};
-use fw_script::{Status, top_run};
+use fw_script::{Status, tell, top_run};
 use std::io::ErrorKind;
 use std::process::ExitCode;
 use std::{env, io};
@@ -12,10 +12,9 @@ fn main(rt: HostRuntime) -> ExitCode {
         Ok(words) => run(&rt, words.as_slice()),
         Err(status) => status,
     };
-    if status != Status::Done {
-        let _ = eprintln!(rt; "fwd: {status}");
-    }
-    ExitCode::from(status.exit_number())
+    let stderr = rt.stderr();
+    let mut errors = WriteSink::new(io::writer(&stderr));
+    ExitCode::from(tell(status, &mut errors))
 }
 
 /// The words of the command line behind the program's name. Words that are no UTF-8 are none that the program takes.

@@ -1,0 +1,6 @@
+//! What a client is told: signals and replies, as values, and as the lines of a script's output.
+#![tactic(auto)]
+
+mod told;
+
+pub use told::{Reply, Signal, SignalKind, Value, push_reply, push_signal};

@@ -1,0 +1,132 @@
+//! What a client is told: signals and replies, as values and as lines of a script's output.
+ghost use Rattle.std.specs.Prelude.{◌≡◌, ◌++◌, OnOk, string_bytes};
+ghost use Rattle.std.specs.List.{flat_map};
+ghost use Rattle.fw_told.specs.Told.{refusal_text, reply_line, reply_text, signal_line, signal_name, value_text, values_text};
+
+use fw_base::{Memory, Seq, Text};
+use fw_model::Code;
+use fw_quote::push_quoted;
+use std::alloc::Global;
+
+/// A value of a signal or a reply.
+#[derive(Drop)]
+pub enum Value {
+    Text(Text),
+    Number(u32),
+}
+
+/// The kinds of signals (firewalld.dbus(5)).
+#[derive(Clone, Copy, Debug, PartialEq, Eq)]
+pub enum SignalKind {
+    /// `PortAdded` of the interface `zone`: zone, port, protocol, timeout.
+    ZonePortAdded,
+}
+
+/// A signal: something changed.
+#[derive(Drop)]
+pub struct Signal {
+    pub kind: SignalKind,
+    pub values: Seq<Value>,
+}
+
+/// The reply to a call.
+#[derive(Drop)]
+pub enum Reply {
+    Ok(Seq<Value>),
+    /// The call is refused for a reason, which names what it refuses.
+    Refused { code: Code, subject: Text },
+}
+
+impl SignalKind {
+    /// Its interface's name in scripts, a dot and its own name.
+    pub fn name(self) -> &'static str
+        ensures { result.now ≡ signal_name self }
+    {
+        match self {
+            SignalKind::ZonePortAdded => "zone.PortAdded",
+        }
+    }
+}
+
+/// Appends the line that tells a client of a signal.
+///
+/// Refuses for want of memory alone.
+#[tactic(auto, unfolding(crate::specs::Told::signal_line))]
+pub fn push_signal(out: &mut String, client: u16, signal: &Signal) -> Result<(), Memory>
+    ensures { OnOk result (string_bytes out.new ≡ string_bytes out.old ++ signal_line client signal.now) }
+{
+    let name = signal.kind.name();
+    write!(out, "signal {client} {name}")?;
+    push_values(out, signal.values.as_slice())?;
+    out.push('\n')?;
+    Ok(())
+}
+
+/// Appends the line of a reply.
+///
+/// Refuses for want of memory alone.
+#[tactic(auto, unfolding(crate::specs::Told::reply_line))]
+pub fn push_reply(
+    out: &mut String,
+    alloc: Global,
+    client: u16,
+    reply: &Reply,
+) -> Result<(), Memory>
+    ensures { OnOk result (string_bytes out.new ≡ string_bytes out.old ++ reply_line client reply.now) }
+{
+    write!(out, "reply {client} ")?;
+    push_reply_text(out, alloc, reply)?;
+    out.push('\n')?;
+    Ok(())
+}
+
+fn push_reply_text(out: &mut String, alloc: Global, reply: &Reply) -> Result<(), Memory>
+    ensures { OnOk result (string_bytes out.new ≡ string_bytes out.old ++ reply_text reply.now) }
+{
+    match reply {
+        Reply::Ok(values) => {
+            out.push_str("ok")?;
+            push_values(out, values.as_slice())
+        }
+        Reply::Refused { code, subject } => push_refusal(out, alloc, *code, subject.as_str()),
+    }
+}
+
+#[tactic(auto, unfolding(crate::specs::Told::refusal_text))]
+fn push_refusal(
+    out: &mut String,
+    alloc: Global,
+    code: Code,
+    subject: &str,
+) -> Result<(), Memory>
+    ensures { OnOk result (string_bytes out.new ≡ string_bytes out.old ++ refusal_text code subject.now) }
+{
+    let name = code.name();
+    let text = format!(in alloc; "{name}: {subject}")?;
+    out.push_str("error org.fedoraproject.FirewallD1.Exception ")?;
+    push_quoted(out, text.as_str())?;
+    Ok(())
+}
+
+/// Appends values, each behind a blank.
+fn push_values(out: &mut String, values: &[Value]) -> Result<(), Memory>
+    ensures { OnOk result (string_bytes out.new ≡ string_bytes out.old ++ values_text values.now) }
+{
+    for value in values {
+        push_value(out, value)?;
+    }
+    Ok(())
+}
+
+fn push_value(out: &mut String, value: &Value) -> Result<(), Memory>
+    ensures { OnOk result (string_bytes out.new ≡ string_bytes out.old ++ value_text value.now) }
+{
+    match value {
+        Value::Text(text) => {
+            out.push(' ')?;
+            push_quoted(out, text.as_str())?;
+        }
+        Value::Number(number) => write!(out, " {number}")?,
+    }
+    Ok(())
+}
