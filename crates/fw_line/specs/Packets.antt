@@ -28,8 +28,22 @@ link_name text = if is_interface text && is_none (before_plus text) then Some te
 -- a new packet of an interface, sent to this host alone, with no mark, of which nothing else is told
 abbrev pub packet_between : List ℕ → Addr → Addr → ℕ → ℕ → ℕ → Packet
 packet_between name source destination protocol from to = record {
-    origin = Link name; src = source; dst = destination; mac = None; proto = protocol; sport = from; dport = to;
-    icmp_type = 0; icmp_code = 0; state = New; dnat = false; pkt = Unicast; mark = 0; limits = []; routes = [] }
+  origin = Link name;
+  src = source;
+  dst = destination;
+  mac = None;
+  proto = protocol;
+  sport = from;
+  dport = to;
+  icmp_type = 0;
+  icmp_code = 0;
+  state = New;
+  dnat = false;
+  pkt = Unicast;
+  mark = 0;
+  limits = [];
+  routes = [];
+}
 
 -- `src=ADDRESS dst=ADDRESS proto=PROTOCOL sport=PORT in=NAME dport=PORT`
 unfoldable pub packet_of : List (List ℕ) → Option Packet

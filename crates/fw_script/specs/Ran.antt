@@ -4,7 +4,6 @@ use Rattle.fw_input.specs.Lines.{Judgement}
 use Rattle.fw_model.specs.declared.port.Port.{Port}
 use Rattle.fw_run.specs.Endings.{Runs}
 use Rattle.fw_run.specs.declared.ended.Ended.{Ended}
-use Rattle.fw_run.specs.declared.ended.Ended.TheVariants as ended
 use Rattle.fw_script.specs.Script.{step}
 use Rattle.fw_script.specs.Statuses.{status_of}
 use Rattle.fw_script.specs.declared.open_ports.FirstState.{FirstState}

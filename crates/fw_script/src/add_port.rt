@@ -2,10 +2,10 @@
 ghost use Rattle.std.specs.Prelude.{◌≡◌, IfOk};
 ghost use Rattle.fw_script.specs.AddPort.{add_port, added_signal, lists, port_subject, port_to_add, refused_reply};
 
-use fw_told::{Reply, Signal, SignalKind, Value};
 use fw_addr::{read_port_proto, read_ports};
 use fw_base::{Memory, Seq, Text};
 use fw_model::{Code, Port};
+use fw_told::{Reply, Signal, SignalKind, Value};
 use std::alloc::Global;
 
 /// Why a call to add a port is refused.
@@ -33,12 +33,7 @@ pub const ZONE: &str = "public";
 /// What a call answers that adds a port to those that are listed.
 ///
 /// Refuses for want of memory alone.
-pub fn add_port(
-    alloc: Global,
-    ports: &[Port],
-    port: &str,
-    protocol: &str,
-) -> Result<Answer, Memory>
+pub fn add_port(alloc: Global, ports: &[Port], port: &str, protocol: &str) -> Result<Answer, Memory>
     ensures { IfOk result (λ answer. answer ≡ add_port ports.now port.now protocol.now) }
 {
     match port_to_add(ports, port, protocol) {
@@ -92,9 +87,7 @@ fn added_signal(alloc: Global, port: &Port) -> Result<Signal, Memory>
     let mut values = Seq::new(alloc);
     values.push(Value::Text(Text::of(alloc, ZONE)?))?;
     let range = port.range;
-    values.push(Value::Text(Text::from_string(
-        format!(in alloc; "{range}")?,
-    )))?;
+    values.push(Value::Text(Text::from_string(format!(in alloc; "{range}")?)))?;
     values.push(Value::Text(Text::of(alloc, port.proto.as_str())?))?;
     values.push(Value::Number(0))?;
     Ok(Signal {

@@ -128,8 +128,9 @@ impl OpenPorts {
                 let ports = self.ports.as_slice();
                 let answer = add_port(alloc, ports, port.as_str(), protocol.as_str())?;
                 push_answer(out, alloc, &answer)?;
-                match answer.added {
-                    Some(added) => self.open(added),
+                let added = answer.added;
+                match added {
+                    Some(port) => self.open(port),
                     None => Ok(()),
                 }
             }
@@ -152,12 +153,7 @@ impl Machine for OpenPorts {
 
     ghost step = { step };
 
-    fn run_line(
-        &mut self,
-        alloc: Global,
-        line: &[u8],
-        out: &mut String,
-    ) -> Result<(), LineError>
+    fn run_line(&mut self, alloc: Global, line: &[u8], out: &mut String) -> Result<(), LineError>
         ensures { RunsLine result (step self.old line.now) self.old self.new (string_bytes out.old) (string_bytes out.new) }
     {
         let line = read_line(alloc, line)?;

@@ -29,12 +29,16 @@ unfoldable pub signal_line : (client : ℕ) → Signal → List ℕ
 signal_line client told = codes "signal " ++ decimal client ++ codes " " ++ signal_name told.kind ++ values_text told.values ++ 10 ∷ []
 
 -- a refusal's code, and what it refuses
-unfoldable pub refusal_text : Code → (subject : List ℕ) → List ℕ
-refusal_text code subject = codes "error org.fedoraproject.FirewallD1.Exception " ++ quoted (code_name code ++ codes ": " ++ subject)
+abbrev pub reason_text : Code → (subject : List ℕ) → List ℕ
+reason_text code subject = code_name code ++ codes ": " ++ subject
+
+-- the daemon's error
+unfoldable pub exception_text : (reason : List ℕ) → List ℕ
+exception_text reason = codes "error org.fedoraproject.FirewallD1.Exception " ++ quoted reason
 
 abbrev pub reply_text : Reply → List ℕ
 reply_text (reply.Ok values) = codes "ok" ++ values_text values
-reply_text (reply.Refused code subject) = refusal_text code subject
+reply_text (reply.Refused code subject) = exception_text (reason_text code subject)
 
 -- the line of a reply
 unfoldable pub reply_line : (client : ℕ) → Reply → List ℕ

@@ -1,7 +1,7 @@
 //! What a client is told: signals and replies, as values and as lines of a script's output.
-ghost use Rattle.std.specs.Prelude.{◌≡◌, ◌++◌, OnOk, string_bytes};
+ghost use Rattle.std.specs.Prelude.{◌≡◌, ◌++◌, IfOk, OnOk, string_bytes};
 ghost use Rattle.std.specs.List.{flat_map};
-ghost use Rattle.fw_told.specs.Told.{refusal_text, reply_line, reply_text, signal_line, signal_name, value_text, values_text};
+ghost use Rattle.fw_told.specs.Told.{exception_text, reason_text, reply_line, reply_text, signal_line, signal_name, value_text, values_text};
 
 use fw_base::{Memory, Seq, Text};
 use fw_model::Code;
@@ -66,12 +66,7 @@ pub fn push_signal(out: &mut String, client: u16, signal: &Signal) -> Result<(),
 ///
 /// Refuses for want of memory alone.
 #[tactic(auto, unfolding(crate::specs::Told::reply_line))]
-pub fn push_reply(
-    out: &mut String,
-    alloc: Global,
-    client: u16,
-    reply: &Reply,
-) -> Result<(), Memory>
+pub fn push_reply(out: &mut String, alloc: Global, client: u16, reply: &Reply) -> Result<(), Memory>
     ensures { OnOk result (string_bytes out.new ≡ string_bytes out.old ++ reply_line client reply.now) }
 {
     write!(out, "reply {client} ")?;
@@ -92,20 +87,27 @@ fn push_reply_text(out: &mut String, alloc: Global, reply: &Reply) -> Result<(),
     }
 }
 
-#[tactic(auto, unfolding(crate::specs::Told::refusal_text))]
-fn push_refusal(
-    out: &mut String,
-    alloc: Global,
-    code: Code,
-    subject: &str,
-) -> Result<(), Memory>
-    ensures { OnOk result (string_bytes out.new ≡ string_bytes out.old ++ refusal_text code subject.now) }
+fn push_refusal(out: &mut String, alloc: Global, code: Code, subject: &str) -> Result<(), Memory>
+    ensures { OnOk result (string_bytes out.new ≡ string_bytes out.old ++ exception_text (reason_text code subject.now)) }
 {
-    let name = code.name();
-    let text = format!(in alloc; "{name}: {subject}")?;
+    let reason = reason(alloc, code, subject)?;
+    push_exception(out, reason.as_str())
+}
+
+fn push_exception(out: &mut String, reason: &str) -> Result<(), Memory>
+    ensures { OnOk result (string_bytes out.new ≡ string_bytes out.old ++ exception_text reason.now) }
+{
     out.push_str("error org.fedoraproject.FirewallD1.Exception ")?;
-    push_quoted(out, text.as_str())?;
+    push_quoted(out, reason)?;
     Ok(())
+}
+
+/// A refusal's code, and what it refuses.
+fn reason(alloc: Global, code: Code, subject: &str) -> Result<Text, Memory>
+    ensures { IfOk result (λ text. text ≡ reason_text code subject.now) }
+{
+    let code = code.name();
+    Ok(Text::from_string(format!(in alloc; "{code}: {subject}")?))
 }
 
 /// Appends values, each behind a blank.
