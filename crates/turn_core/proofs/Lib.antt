@@ -1,0 +1,5 @@
+pub mod Places
+pub mod Lists
+pub mod Standing
+pub mod KindsKeep
+pub mod Moves
