@@ -3,3 +3,4 @@ pub mod Lists
 pub mod Standing
 pub mod KindsKeep
 pub mod Moves
+pub mod SplitAndJoin

@@ -1,20 +1,24 @@
 -- Each step on the table keeps its rule, and tells what it is said to tell.
-use Rattle.std.proofs.Common.{◌≡◌, ℕ, zero, suc, ◌+◌, ◌-◌, ◌*◌, ◌%◌, ◌<◌, ◌≢◌, ◌⊎◌, true, false, List, [], ◌∷◌, ◌++◌, length, set, get_or, eqb, replicate, sym, refl, ap, ◌∙◌, subst, subst₂, inr, arith, Some, None, length-append}
+use Rattle.std.proofs.Common.{⊎_elim, ◌≡◌, ℕ, zero, suc, ◌+◌, ◌-◌, ◌*◌, ◌%◌, ◌<◌, ◌≢◌, ◌⊎◌, true, false, List, [], ◌∷◌, ◌++◌, length, set, get_or, eqb, replicate, sym, refl, ap, ◌∙◌, subst, subst₂, inr, arith, Some, None, length-append}
 use Rattle.std.specs.Prelude as std
 use Rattle.std.proofs.lemmas.Option.{none-some, same_Some}
 use mathlib.Core.Option.{Option, none, some, some-injective, some-ne-none}
 use prog.Atomic.{either}
 use lib.ListN.{get_elem?}
-use Rattle.atomic_table.specs.Table.{State, Act, keeps, takes, gives, step, Valid, homes_after, carried_after, opening, Allows, Seen}
-use Rattle.atomic_table.proofs.Lists.{set_here, exchanged}
-use Rattle.turn_core.specs.Places.{IsFront, Has}
-use Rattle.turn_core.specs.Knowledge.{first_view, knowing, looked, took, committed, left}
+use Rattle.atomic_table.specs.Table.{State, Act, keeps, takes, gives, step, Valid, homes_after, carried_after, opening, Allows, Splits, Joins, Seen}
+use Rattle.atomic_table.proofs.Lists.{set_here, set_else, exchanged}
+use Rattle.turn_core.specs.Places.{IsFront, Has, Ascending, merged, longer, shorter}
+use Rattle.turn_core.specs.Passes.{IsSound, HasJoined}
+use Rattle.turn_core.specs.declared.view.Knowledge.{Knowledge}
+use Rattle.turn_core.specs.Knowledge.{spent, first_view, knowing, looked, took, committed, left, halved, split_off, joined, kept_view, new_view, joined_view}
 use Rattle.turn_core.specs.History.{Moment, History, Fits}
 use Rattle.turn_core.specs.Steps.{load, take, commit, slot_out}
 use Rattle.turn_core.specs.Plays.{Keeps, Sat, Looked, Tries, Committed, Left, SlotOut, SlotIn}
 use Rattle.turn_core.specs.declared.view.View.{View}
 use Rattle.turn_core.proofs.Lists.{within}
 use Rattle.turn_core.proofs.Standing.{half_is, holder_odd, based, sound}
+use Rattle.turn_core.proofs.SplitAndJoin.{split_keeps, join_keeps}
+use Rattle.turn_core.proofs.Places.{begins_left, begins_right, apart_merged, has_merged, merged_left, merged_right}
 use Rattle.turn_core.proofs.KindsKeep.{load_keeps, take_keeps, commit_keeps, leave_keeps, slot_out_keeps, slot_in_keeps}
 
 module _ {S B E : Type 0} (base_of : S → B) (entries_of : S → List E) (session : E → ℕ) (base : B) where
@@ -178,3 +182,44 @@ module _ {S B E : Type 0} (base_of : S → B) (entries_of : S → List E) (sessi
   -- after that the slot is known to be empty
   pub closes : (s : State (std.Option S) (View B E)) (id : ℕ) (v : View B E) → Seen Rule id v s → v.vacant ≡ true → get_elem? s.homes 0 ≡ some (some None)
   closes s id v t vacant = let k = t.0 in ap (λ hs. get_elem? hs 0) k.3 ∙ ap some (k.4.vacant id v t.1 vacant).1
+
+  -- split
+  pub split_moves : (id : ℕ) (v : View B E) → 0 < v.knows.parts → v.knows.holds ≡ false → v.knows.parts % 2 ≡ 0 → Splits Rule id v (kept_view v) (new_view v)
+  split_moves id v some-part free halves s k g = (k.0, k.1, k.2, k.3, split_keeps base_of entries_of session base (Now k.0 k.1 s.views) k.4 id v g some-part free halves)
+
+  -- join
+  pub join_moves : (id : ℕ) (v : View B E) (other : ℕ) (u : View B E) → 0 < v.knows.parts → v.knows.holds ≡ false → u.knows.holds ≡ false → v.vacant ≡ false → Joins Rule id v other u (joined_view v u) spent
+  join_moves id v other u some-part free free' full s k g n d =
+      (k.0, k.1, k.2, k.3, join_keeps base_of entries_of session base (Now k.0 k.1 s.views) k.4 id v other u g (sym (set_else s.views id other (joined_view v u) n) ∙ d) n some-part free free' full)
+
+module _ {B E : Type 0} where
+  -- what a join tells, from what a look after it tells
+  pub joins_tell : (k other : Knowledge B E) (word : ℕ) → IsFront (shorter k.seen other.seen) (longer k.seen other.seen) → Ascending (merged k.mine other.mine) → HasJoined k other (looked (joined k other) word)
+  joins_tell k other word front ascending = record {
+    now = (word, refl);
+    front = begins_left k.seen other.seen front;
+    other_front = begins_right k.seen other.seen front;
+    apart = apart_merged k.mine other.mine ascending;
+    places = λ place. (has_merged k.mine other.mine place, λ h. ⊎_elim (merged_left k.mine other.mine place) (merged_right k.mine other.mine place) h);
+  }
+
+  -- both halves of a sound pass are sound
+  pub halved_sound : (session : E → ℕ) (k : Knowledge B E) → IsSound session k → k.parts % 2 ≡ 0 → IsSound session (halved k)
+  halved_sound session k s halves = record {
+    part = let some = s.part in omega arith;
+    at_most = let few = s.at_most in omega (arith, few);
+    ascending = s.ascending;
+    within = s.within;
+    sessions = s.sessions;
+    whole = λ all. let some = s.part in let few = s.at_most in absurd (omega (arith, few, all));
+  }
+
+  pub split_off_sound : (session : E → ℕ) (k : Knowledge B E) → IsSound session k → k.parts % 2 ≡ 0 → IsSound session (split_off k)
+  split_off_sound session k s halves = record {
+    part = let some = s.part in omega arith;
+    at_most = let few = s.at_most in omega (arith, few);
+    ascending = tt;
+    within = λ place has. absurd has;
+    sessions = λ place entry e. ((λ has. has), λ has. has);
+    whole = λ all. let some = s.part in let few = s.at_most in absurd (omega (arith, few, all));
+  }

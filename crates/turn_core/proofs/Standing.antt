@@ -63,6 +63,7 @@ module _ {S B E : Type 0} (base_of : S → B) (entries_of : S → List E) (sessi
   sound m h i v g some-part = let f = h.each i v g in (
     record {
       part = some-part;
+      at_most = let one = term_le parted m.views i v g in let sum = h.parts in omega (arith, one, sum);
       ascending = f.ascending;
       within = f.within;
       sessions = λ place entry e. f.sessions place entry (seen_is m h i v g place entry e);

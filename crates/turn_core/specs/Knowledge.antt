@@ -1,6 +1,6 @@
 -- What a pass knows, and how each kind of step changes it.
 use Rattle.std.specs.Prelude.{ℕ, ◌+◌, ◌*◌, ◌/◌, ◌^◌, List, [], ◌∷◌, ◌++◌, length, None, Some, false, true}
-use Rattle.turn_core.specs.Places.{merged, longer}
+use Rattle.turn_core.specs.Places.{merged, longer, shorter}
 use Rattle.turn_core.specs.declared.view.Knowledge.{Knowledge}
 use Rattle.turn_core.specs.declared.view.View.{View}
 
@@ -63,3 +63,14 @@ module _ {B E : Type 0} where
   -- the first view
   abbrev pub first_view : B → View B E
   first_view base = record (plain (opened base)) { vacant = true }
+
+  -- what a pass keeps of its view when another is split off, and the view of the other
+  abbrev pub kept_view : View B E → View B E
+  kept_view v = knowing v (halved v.knows)
+
+  abbrev pub new_view : View B E → View B E
+  new_view v = plain (split_off v.knows)
+
+  -- the view of two passes that became one
+  abbrev pub joined_view : View B E → View B E → View B E
+  joined_view v other = record v { knows = joined v.knows other.knows; shorter = shorter v.knows.seen other.knows.seen }

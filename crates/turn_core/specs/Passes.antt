@@ -1,8 +1,8 @@
 -- What contracts see of a turn and of a pass, and what each call does to a pass.
-use Rattle.std.specs.Prelude.{◌≡◌, ℕ, ◌*◌, ◌%◌, ◌<◌, ◌⊎◌, ◌↔◌, List, [], ◌∷◌, ◌++◌, length, Some, slice_get}
+use Rattle.std.specs.Prelude.{◌≡◌, ℕ, ◌*◌, ◌%◌, ◌<◌, ◌≤◌, ◌⊎◌, ◌↔◌, List, [], ◌∷◌, ◌++◌, length, Some, slice_get}
 use Rattle.atomic_table.specs.Seated.{TableId}
-use Rattle.turn_core.specs.Places.{IsFront, Has, Ascending}
-use Rattle.turn_core.specs.Knowledge.{all_parts, looked, took}
+use Rattle.turn_core.specs.Places.{IsFront, Has, Ascending, Apart}
+use Rattle.turn_core.specs.Knowledge.{all_parts, looked, took, joined}
 use Rattle.turn_core.specs.declared.view.Knowledge.{Knowledge}
 use Rattle.turn_core.specs.declared.tried.Tried.{Tried}
 use Rattle.turn_core.specs.declared.tried.Tried.TheVariants.{Held, Busy}
@@ -19,8 +19,9 @@ pub record Knowing (B E : Type 0) : Type 0 where
 
 -- what holds of every pass by itself
 pub record IsSound {B E : Type 0} (session : E → ℕ) (k : Knowledge B E) : Type 0 where
-  -- it has at least one part
+  -- it has at least one part, and at most all
   pub part : 0 < k.parts
+  pub at_most : k.parts ≤ all_parts
   -- its places are ascending, and are places of what it has seen
   pub ascending : Ascending k.mine
   pub within : (place : ℕ) → Has k.mine place → place < length k.seen
@@ -51,3 +52,11 @@ module _ {B E : Type 0} where
   -- the journal has one entry more than what was seen, which opens its session or is of one whose opening is the pass's own
   abbrev pub Adds : (E → ℕ) → Knowledge B E → List E → Type 0
   Adds session k journal = (entry : E) × (journal ≡ k.seen ++ entry ∷ []) × ((session entry ≡ length k.seen) ⊎ Has k.mine (session entry))
+
+  -- Two passes became one, which has made one more step: it has seen what the longer front has, which begins with both; the two shared no place, and their places are its own.
+  pub record HasJoined (old other new : Knowledge B E) : Type 0 where
+    pub now : (word : ℕ) × (new ≡ looked (joined old other) word)
+    pub front : IsFront old.seen new.seen
+    pub other_front : IsFront other.seen new.seen
+    pub apart : Apart old.mine other.mine
+    pub places : (place : ℕ) → Has new.mine place ↔ (Has old.mine place ⊎ Has other.mine place)

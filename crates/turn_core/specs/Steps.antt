@@ -2,8 +2,7 @@
 use Rattle.std.specs.Prelude.{◌≡◌, ℕ, ◌+◌, ◌-◌, List, [], ◌∷◌, ◌++◌, length, set, true, false, Some}
 use Rattle.std.specs.Prelude as std
 use mathlib.Core.Option.{none, some}
-use Rattle.turn_core.specs.Places.{shorter}
-use Rattle.turn_core.specs.Knowledge.{looked, took, committed, left, halved, split_off, joined, knowing, plain, spent}
+use Rattle.turn_core.specs.Knowledge.{looked, took, committed, left, knowing, kept_view, new_view, joined_view, spent}
 use Rattle.turn_core.specs.History.{Moment}
 use Rattle.turn_core.specs.declared.view.View.{View}
 
@@ -38,8 +37,8 @@ module _ {S B E : Type 0} (m : Moment S B E) (i : ℕ) (v : View B E) where
 
   -- split: the word is loaded, the view keeps half of the parts, and a new view has the other half
   abbrev pub split : Moment S B E
-  split = record m { views = set m.views i (knowing v (halved v.knows)) ++ plain (split_off v.knows) ∷ [] }
+  split = record m { views = set m.views i (kept_view v) ++ new_view v ∷ [] }
 
   -- join: the word is loaded, the view has what both had, and the other, the j-th, is spent
   abbrev pub join : ℕ → View B E → Moment S B E
-  join j other = record m { views = set (set m.views i (record v { knows = joined v.knows other.knows; shorter = shorter v.knows.seen other.knows.seen })) j spent }
+  join j other = record m { views = set (set m.views i (joined_view v other)) j spent }

@@ -1,10 +1,10 @@
 //! The rule of the table, and what each step on its word tells the pass that makes it.
-ghost use Rattle.turn_core.specs.Knowledge.{first_view};
+ghost use Rattle.turn_core.specs.Knowledge.{first_view, kept_view, new_view, joined_view, spent};
 ghost use Rattle.turn_core.specs.Plays.{Keeps, Looked, Tries, Committed, Left, SlotOut, SlotIn};
 
 use crate::journaled::Journaled;
 use crate::view::View;
-use atomic_table::{Play, TableRule};
+use atomic_table::{Join, Play, Split, TableRule};
 
 /// There is one history.
 pub struct OneHistory;
@@ -55,4 +55,22 @@ pub struct SlotComesHome;
 
 impl<S: Journaled> Play<Option<S>, View<S::Base, S::Entry>> for SlotComesHome {
     ghost then = { SlotIn S.base S.entries S.session };
+}
+
+/// A view is cut in two, and a new pass has the second.
+pub struct Halves;
+
+impl<B, E> Split<View<B, E>> for Halves {
+    ghost left = { kept_view };
+
+    ghost right = { new_view };
+}
+
+/// Two views become one, and the second pass is spent.
+pub struct Both;
+
+impl<B, E> Join<View<B, E>> for Both {
+    ghost both = { joined_view };
+
+    ghost spent = { spent };
 }

@@ -1,11 +1,13 @@
 //! The turn, which any number of passes take one after another.
-ghost use Rattle.std.specs.Prelude.{◌≡◌, [], true, false, Some, None, IfOk};
-ghost use Rattle.turn_core.specs.Knowledge.{opened, looked, committed, left};
-ghost use Rattle.turn_core.specs.Passes.{IsSound, IfHeld, IfBusy, HasTaken, HasFailed, Adds};
+ghost use Rattle.std.specs.Prelude.{◌≡◌, ◌%◌, [], true, false, Some, None, IfOk, IsOkAnd};
+ghost use Rattle.turn_core.specs.Knowledge.{opened, looked, committed, left, halved, split_off};
+ghost use Rattle.turn_core.specs.Passes.{IsSound, IfHeld, IfBusy, HasTaken, HasFailed, HasJoined, Adds};
 
 use crate::journaled::Journaled;
 use crate::pass::Pass;
-use crate::rule::{Commit, Leave, Look, OneHistory, SlotComesHome, SlotGoesOut, Take};
+use crate::rule::{
+    Both, Commit, Halves, Leave, Look, OneHistory, SlotComesHome, SlotGoesOut, Take,
+};
 use crate::tried::Tried;
 use crate::view::View;
 use atomic_table::Table;
@@ -104,6 +106,34 @@ impl<S: Journaled> Turn<S> {
         let shared = &self.table.shared;
         let_go(shared.exchange(&mut pass.seat, 0, Some(state)));
         shared.store::<Leave>(&mut pass.seat, 0, 2 * entries);
+    }
+
+    /// Splits a pass off, which has seen as much, has no place of its own and half of the parts. It needs no memory, since
+    /// a pass has no bytes.
+    pub fn split(&self, pass: &mut Pass<S>) -> Result<Pass<S>, Memory>
+        requires turn { pass.old.turn ≡ self.now.turn }
+        requires free { pass.old.knows.holds ≡ false }
+        requires parts { pass.old.knows.parts % 2 ≡ 0 }
+        ensures turn { pass.new.turn ≡ pass.old.turn }
+        ensures pass { pass.new.knows ≡ halved pass.old.knows }
+        ensures new { IsOkAnd result (λ r. (r.turn ≡ pass.old.turn) × (r.knows ≡ split_off pass.old.knows)) }
+    {
+        let seat = self.table.shared.split_seat::<Halves>(&mut pass.seat);
+        Ok(Pass { seat })
+    }
+
+    /// Joins another pass into this one, which then has the places and the parts of both.
+    pub fn join(&self, pass: &mut Pass<S>, other: Pass<S>)
+        requires turn { (pass.old.turn ≡ self.now.turn) × (other.turn ≡ self.now.turn) }
+        requires free { (pass.old.knows.holds ≡ false) × (other.knows.holds ≡ false) }
+        ensures turn { pass.new.turn ≡ pass.old.turn }
+        ensures pass { HasJoined pass.old.knows other.knows pass.new.knows }
+        ensures sound { IsSound S.session pass.new.knows }
+    {
+        let Pass { seat } = other;
+        let shared = &self.table.shared;
+        shared.join_seat::<Both>(&mut pass.seat, seat);
+        shared.load::<Look>(&mut pass.seat, 0);
     }
 
     /// Ends the turn. The pass holds it, so the caller has the value.
