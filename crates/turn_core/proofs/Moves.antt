@@ -1,24 +1,22 @@
 -- Each step on the table keeps its rule, and tells what it is said to tell.
-use Rattle.std.proofs.Common.{⊎_elim, ◌≡◌, ℕ, zero, suc, ◌+◌, ◌-◌, ◌*◌, ◌%◌, ◌<◌, ◌≢◌, ◌⊎◌, true, false, List, [], ◌∷◌, ◌++◌, length, set, get_or, eqb, replicate, sym, refl, ap, ◌∙◌, subst, subst₂, inr, arith, Some, None, length-append}
+use Rattle.std.proofs.Common.{◌≡◌, ℕ, ◌+◌, ◌-◌, ◌*◌, ◌%◌, ◌<◌, ◌⊎◌, true, false, List, [], ◌∷◌, ◌++◌, length, set, get_or, eqb, replicate, sym, refl, ap, ◌∙◌, subst, subst₂, arith, Some, None, length-append}
 use Rattle.std.specs.Prelude as std
-use Rattle.std.proofs.lemmas.Option.{none-some, same_Some}
-use mathlib.Core.Option.{Option, none, some, some-injective, some-ne-none}
+use Rattle.std.proofs.lemmas.Option.{same_Some}
+use mathlib.Core.Option.{Option, none, some}
 use prog.Atomic.{either}
 use lib.ListN.{get_elem?}
 use Rattle.atomic_table.specs.Table.{State, Act, keeps, takes, gives, step, Valid, homes_after, carried_after, opening, Allows, Splits, Joins, Seen}
 use Rattle.atomic_table.proofs.Lists.{set_here, set_else, exchanged}
-use Rattle.turn_core.specs.Places.{IsFront, Has, Ascending, merged, longer, shorter}
-use Rattle.turn_core.specs.Passes.{IsSound, HasJoined}
-use Rattle.turn_core.specs.declared.view.Knowledge.{Knowledge}
-use Rattle.turn_core.specs.Knowledge.{spent, first_view, knowing, looked, took, committed, left, halved, split_off, joined, kept_view, new_view, joined_view}
-use Rattle.turn_core.specs.History.{Moment, History, Fits}
+use Rattle.turn_core.specs.Places.{IsFront, Has}
+use Rattle.turn_core.specs.Knowledge.{spent, first_view, knowing, looked, took, committed, left, kept_view, new_view, joined_view}
+use Rattle.turn_core.specs.History.{Moment, History}
 use Rattle.turn_core.specs.Steps.{load, take, commit, slot_out}
 use Rattle.turn_core.specs.Plays.{Keeps, Sat, Looked, Tries, Committed, Left, SlotOut, SlotIn}
 use Rattle.turn_core.specs.declared.view.View.{View}
 use Rattle.turn_core.proofs.Lists.{within}
 use Rattle.turn_core.proofs.Standing.{half_is, holder_odd, based, sound}
 use Rattle.turn_core.proofs.SplitAndJoin.{split_keeps, join_keeps}
-use Rattle.turn_core.proofs.Places.{begins_left, begins_right, apart_merged, has_merged, merged_left, merged_right}
+use Rattle.turn_core.proofs.Stepping.{opening_stands}
 use Rattle.turn_core.proofs.KindsKeep.{load_keeps, take_keeps, commit_keeps, leave_keeps, slot_out_keeps, slot_in_keeps}
 
 module _ {S B E : Type 0} (base_of : S → B) (entries_of : S → List E) (session : E → ℕ) (base : B) where
@@ -31,44 +29,9 @@ module _ {S B E : Type 0} (base_of : S → B) (entries_of : S → List E) (sessi
   abbrev Now : ℕ → Option (std.Option S) → List (View B E) → Moment S B E
   Now word slot views = record { word = word; slot = slot; views = views }
 
-  only_one : (P : View B E → Type 0) (v : View B E) → P v → (i : ℕ) (u : View B E) → get_elem? (v ∷ []) i ≡ some u → P u
-  only_one P v p zero u e = subst P (some-injective v u e) p
-  only_one P v p (suc i) u e = absurd (some-ne-none u (sym e))
-
-  no_two : (v : View B E) (i j : ℕ) (u w : View B E) → i ≢ j → get_elem? (v ∷ []) i ≡ some u → get_elem? (v ∷ []) j ≡ some w → ⊥
-  no_two v zero zero u w n e d = n refl
-  no_two v (suc i) j u w n e d = some-ne-none u (sym e)
-  no_two v zero (suc j) u w n e d = some-ne-none w (sym d)
-
   -- the table at the start
   pub opens : Rule (opening (1 ∷ []) (replicate 1 None) (first_view base))
-  opens = (
-    1,
-    some None,
-    refl,
-    refl,
-    record {
-      history = [];
-      even = λ e. absurd (omega arith);
-      odd = λ e. (refl, refl);
-      vacant = only_one (λ u. u.vacant ≡ true → (u.knows.holds ≡ true) × (some None ≡ some None)) (first_view base) (λ e. (refl, refl));
-      each = only_one (Fits session base []) (first_view base) record {
-        lives = inr (refl, omega arith);
-        front = ([], refl);
-        holder = λ e. refl;
-        ascending = tt;
-        within = λ place h. absurd h;
-        sessions = λ place entry e. absurd (none-some entry e);
-        found = omega arith;
-        found_before = omega arith;
-        shorter = ([], refl);
-      };
-      apart = λ i j v u n e d. absurd (no_two (first_view base) i j v u n e d);
-      opened = λ place entry e. absurd (none-some entry e);
-      covered = λ place h. absurd (omega arith);
-      parts = refl;
-    },
-  )
+  opens = (1, some None, refl, refl, opening_stands base_of entries_of session base)
 
   -- a step's outcome, where the word is set to k
   abbrev Sets : List ℕ → Slots → List (View B E) → ℕ → List (ℕ × std.Option S) → (ℕ → Sat base_of entries_of session → Type 0) → ℕ → Type 0
@@ -191,35 +154,3 @@ module _ {S B E : Type 0} (base_of : S → B) (entries_of : S → List E) (sessi
   pub join_moves : (id : ℕ) (v : View B E) (other : ℕ) (u : View B E) → 0 < v.knows.parts → v.knows.holds ≡ false → u.knows.holds ≡ false → v.vacant ≡ false → Joins Rule id v other u (joined_view v u) spent
   join_moves id v other u some-part free free' full s k g n d =
       (k.0, k.1, k.2, k.3, join_keeps base_of entries_of session base (Now k.0 k.1 s.views) k.4 id v other u g (sym (set_else s.views id other (joined_view v u) n) ∙ d) n some-part free free' full)
-
-module _ {B E : Type 0} where
-  -- what a join tells, from what a look after it tells
-  pub joins_tell : (k other : Knowledge B E) (word : ℕ) → IsFront (shorter k.seen other.seen) (longer k.seen other.seen) → Ascending (merged k.mine other.mine) → HasJoined k other (looked (joined k other) word)
-  joins_tell k other word front ascending = record {
-    now = (word, refl);
-    front = begins_left k.seen other.seen front;
-    other_front = begins_right k.seen other.seen front;
-    apart = apart_merged k.mine other.mine ascending;
-    places = λ place. (has_merged k.mine other.mine place, λ h. ⊎_elim (merged_left k.mine other.mine place) (merged_right k.mine other.mine place) h);
-  }
-
-  -- both halves of a sound pass are sound
-  pub halved_sound : (session : E → ℕ) (k : Knowledge B E) → IsSound session k → k.parts % 2 ≡ 0 → IsSound session (halved k)
-  halved_sound session k s halves = record {
-    part = let some = s.part in omega arith;
-    at_most = let few = s.at_most in omega (arith, few);
-    ascending = s.ascending;
-    within = s.within;
-    sessions = s.sessions;
-    whole = λ all. let some = s.part in let few = s.at_most in absurd (omega (arith, few, all));
-  }
-
-  pub split_off_sound : (session : E → ℕ) (k : Knowledge B E) → IsSound session k → k.parts % 2 ≡ 0 → IsSound session (split_off k)
-  split_off_sound session k s halves = record {
-    part = let some = s.part in omega arith;
-    at_most = let few = s.at_most in omega (arith, few);
-    ascending = tt;
-    within = λ place has. absurd has;
-    sessions = λ place entry e. ((λ has. has), λ has. has);
-    whole = λ all. let some = s.part in let few = s.at_most in absurd (omega (arith, few, all));
-  }

@@ -30,6 +30,10 @@ pub record IsSound {B E : Type 0} (session : E → ℕ) (k : Knowledge B E) : Ty
   -- with all parts, every place is its own
   pub whole : k.parts ≡ all_parts → (place : ℕ) → place < length k.seen → Has k.mine place
 
+-- the places are those that there were, and this one
+abbrev pub Gains : List ℕ → ℕ → List ℕ → Type 0
+Gains old new_place new = (place : ℕ) → Has new place ↔ (Has old place ⊎ (place ≡ new_place))
+
 abbrev pub IfHeld : {S : Type 0} → Tried S → (S → Type 0) → Type 0
 IfHeld (Held state) P = P state
 IfHeld (Busy word) P = Unit {0}

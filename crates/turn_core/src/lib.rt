@@ -2,6 +2,7 @@
 #![tactic(auto)]
 
 mod journaled;
+mod laws;
 mod pass;
 mod rule;
 mod tried;
@@ -9,6 +10,7 @@ mod turn;
 mod view;
 
 pub use journaled::Journaled;
+pub use laws::history_stands;
 pub use pass::Pass;
 pub use tried::Tried;
 pub use turn::Turn;

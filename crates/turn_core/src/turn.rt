@@ -1,7 +1,7 @@
 //! The turn, which any number of passes take one after another.
-ghost use Rattle.std.specs.Prelude.{◌≡◌, ◌%◌, [], true, false, Some, None, IfOk, IsOkAnd};
+ghost use Rattle.std.specs.Prelude.{◌≡◌, ◌%◌, [], true, false, Some, None, length, IfOk, IsOkAnd};
 ghost use Rattle.turn_core.specs.Knowledge.{opened, looked, committed, left, halved, split_off};
-ghost use Rattle.turn_core.specs.Passes.{IsSound, IfHeld, IfBusy, HasTaken, HasFailed, HasJoined, Adds};
+ghost use Rattle.turn_core.specs.Passes.{IsSound, IfHeld, IfBusy, HasTaken, HasFailed, HasJoined, Adds, Gains};
 
 use crate::journaled::Journaled;
 use crate::pass::Pass;
@@ -17,6 +17,7 @@ use std::marker::Model;
 
 /// A value that passes take in turn. Its word is twice the number of entries of the history while the turn is free, and one
 /// more while a pass holds it.
+#[derive(Drop)]
 pub struct Turn<S: Journaled> {
     table: Table<Option<S>, View<S::Base, S::Entry>, S, OneHistory, Global>,
 }
@@ -84,6 +85,7 @@ impl<S: Journaled> Turn<S> {
         requires entry { Adds S.session pass.old.knows (S.entries state) }
         ensures turn { pass.new.turn ≡ pass.old.turn }
         ensures pass { pass.new.knows ≡ committed pass.old.knows (S.entries state) }
+        ensures place { Gains pass.old.knows.mine (length pass.old.knows.seen) pass.new.knows.mine }
         ensures sound { IsSound S.session pass.new.knows }
     {
         let entries = state.len();

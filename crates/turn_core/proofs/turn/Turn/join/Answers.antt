@@ -2,7 +2,8 @@ use Rattle.std.proofs.Common.{rules, arith, ap, sym, ◌∙◌, subst, subst₂,
 use Rattle.turn_core.specs.Places.{IsFront, Ascending}
 use Rattle.turn_core.specs.Knowledge.{looked}
 use Rattle.turn_core.specs.Passes.{HasJoined}
-use Rattle.turn_core.proofs.Moves.{load_moves, join_moves, joins_tell}
+use Rattle.turn_core.proofs.Moves.{load_moves, join_moves}
+use Rattle.turn_core.proofs.Passing.{joins_tell}
 use Rattle.turn_core.proofs.turn.Turn.join.Goals as goal
 
 pub join_seat-requires : goal.join_seat-requires
