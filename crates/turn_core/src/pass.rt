@@ -1,5 +1,7 @@
 //! A pass: the right to try for the turn.
+ghost use Rattle.std.specs.Prelude.{◌≡◌};
 ghost use Rattle.turn_core.specs.Passes.{IsSound};
+ghost use Rattle.turn_core.specs.Seats.{IsSeated};
 
 use crate::journaled::Journaled;
 use crate::view::View;
@@ -8,7 +10,6 @@ use std::marker::Model;
 
 /// What a caller needs to try for a turn. It has no bytes. Contracts see the turn that it is of, and what it knows: a front
 /// of the history, and which of its places are the pass's own.
-#[derive(Drop)]
 pub struct Pass<S: Journaled> {
     pub(crate) seat: Seat<Option<S>, View<S::Base, S::Entry>>,
 }
@@ -31,5 +32,21 @@ impl<S: Journaled> Pass<S> {
         ensures { IsSound S.session self.now.knows }
     {
         let _ = &self.seat;
+    }
+
+    // The seat that the pass is.
+    pub(crate) fn into_seat(self) -> Seat<Option<S>, View<S::Base, S::Entry>>
+        ensures turn { result.table_id ≡ self.turn }
+        ensures knows { result.me.0.knows ≡ self.knows }
+        ensures seated { IsSeated S.session result.me }
+    {
+        let Self { seat } = self;
+        seat
+    }
+}
+
+impl<S: Journaled> Drop for Pass<S> {
+    fn drop(self) {
+        let Self { seat: _ } = self;
     }
 }

@@ -132,9 +132,8 @@ impl<S: Journaled> Turn<S> {
         ensures pass { HasJoined pass.old.knows other.knows pass.new.knows }
         ensures sound { IsSound S.session pass.new.knows }
     {
-        let Pass { seat } = other;
         let shared = &self.table.shared;
-        shared.join_seat::<Both>(&mut pass.seat, seat);
+        shared.join_seat::<Both>(&mut pass.seat, other.into_seat());
         shared.load::<Look>(&mut pass.seat, 0);
     }
 
@@ -144,7 +143,7 @@ impl<S: Journaled> Turn<S> {
         requires holds { pass.knows.holds ≡ true }
     {
         let Turn { table } = self;
-        let Pass { mut seat } = pass;
+        let mut seat = pass.into_seat();
         table.shared.load::<SlotComesHome>(&mut seat, 0);
         let mut closed = table.close_with(seat);
         let_go(closed.take(0));

@@ -51,6 +51,7 @@ impl Journal {
 
 impl Journaled for Journal {
     type Base = u64;
+
     type Entry = Entry;
 
     ghost base = { λ j. j.name };

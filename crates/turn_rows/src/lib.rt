@@ -2,7 +2,14 @@
 #![tactic(auto)]
 
 mod journal;
+mod threads;
+mod whole;
 mod worker;
 
 pub use journal::{Entry, Journal};
+pub use threads::{Worked, alone, four, pair};
+pub use whole::{run_four, run_two, start, take_all};
 pub use worker::{add, open_session, take, work};
+
+#[cfg(test)]
+mod tests;

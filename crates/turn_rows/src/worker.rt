@@ -25,11 +25,7 @@ pub fn take<R: Wait>(rt: &R, turn: &Turn<Journal>, pass: &mut Pass<Journal>) -> 
 }
 
 /// Opens a session, whose place it answers.
-pub fn open_session<R: Wait>(
-    rt: &R,
-    turn: &Turn<Journal>,
-    pass: &mut Pass<Journal>,
-) -> Option<u64>
+pub fn open_session<R: Wait>(rt: &R, turn: &Turn<Journal>, pass: &mut Pass<Journal>) -> Option<u64>
     requires turn { pass.old.turn ≡ turn.now.turn }
     requires free { pass.old.knows.holds ≡ false }
     ensures kept { Keeps pass.old pass.new }
@@ -48,12 +44,7 @@ pub fn open_session<R: Wait>(
 }
 
 /// Adds an entry to a session of the pass's own, and says whether there was room.
-pub fn add<R: Wait>(
-    rt: &R,
-    turn: &Turn<Journal>,
-    pass: &mut Pass<Journal>,
-    entry: Entry,
-) -> bool
+pub fn add<R: Wait>(rt: &R, turn: &Turn<Journal>, pass: &mut Pass<Journal>, entry: Entry) -> bool
     requires turn { pass.old.turn ≡ turn.now.turn }
     requires free { pass.old.knows.holds ≡ false }
     requires session { Has pass.old.knows.mine entry.session }
@@ -71,12 +62,7 @@ pub fn add<R: Wait>(
 }
 
 /// Opens a session and makes `commits` entries of it in all, its opening among them; says whether all were made.
-pub fn work<R: Wait>(
-    rt: &R,
-    turn: &Turn<Journal>,
-    pass: &mut Pass<Journal>,
-    commits: u64,
-) -> bool
+pub fn work<R: Wait>(rt: &R, turn: &Turn<Journal>, pass: &mut Pass<Journal>, commits: u64) -> bool
     requires turn { pass.old.turn ≡ turn.now.turn }
     requires free { pass.old.knows.holds ≡ false }
     ensures kept { Keeps pass.old pass.new }

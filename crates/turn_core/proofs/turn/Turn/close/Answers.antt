@@ -4,8 +4,8 @@ use Rattle.turn_core.proofs.Moves.{slot_in_moves, closes}
 use Rattle.turn_core.proofs.turn.Turn.close.Goals as goal
 
 pub load-requires : goal.load-requires
-load-requires g c = let J = g.S.Journaled in let me = c.pass.inside.seat.me in let holds = ap (λ x. x.knows.holds) c.pass.view_is ∙ c.requires.holds in
-    (search rules, search rules, slot_in_moves J.base J.entries J.session _ _ _ _ me.0 (ap (λ l. (me.0, l)) (c.pass.invariant.holding holds)) c.pass.invariant.sound.part holds)
+load-requires g c = let J = g.S.Journaled in let me = c.into_seat-seat.result.me in let holds = ap (λ k. k.holds) c.into_seat-seat.ensures.knows ∙ c.requires.holds in
+    (search rules, search rules, slot_in_moves J.base J.entries J.session _ _ _ _ me.0 (ap (λ l. (me.0, l)) (c.into_seat-seat.ensures.seated.holding holds)) c.into_seat-seat.ensures.seated.sound.part holds)
 
 pub let_go-requires : goal.let_go-requires
 let_go-requires g c = let J = g.S.Journaled in let final = c.close_with-closed.ensures.values.2 in
