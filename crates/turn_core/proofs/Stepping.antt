@@ -1,11 +1,11 @@
 -- The history of the turn stands at the opening, and every kind of step keeps it.
-use Rattle.std.proofs.Common.{◌≡◌, ℕ, zero, suc, ◌≢◌, true, List, [], ◌∷◌, ◌++◌, sym, refl, ap, ◌∙◌, subst, inr, arith, Some, None}
+use Rattle.std.proofs.Common.{◌≡◌, ℕ, zero, suc, ◌≢◌, true, List, [], ◌∷◌, ◌++◌, sym, refl, ap, ◌∙◌, subst, inr, arith, Some, None, ◌/◌, ◌%◌, ◌-◌, ◌+◌, inl}
 use Rattle.std.proofs.lemmas.Option.{none-some, same_Some}
 use mathlib.Core.Option.{some, some-injective, some-ne-none}
 use lib.ListN.{get_elem?}
 use Rattle.turn_core.specs.Knowledge.{first_view}
 use Rattle.turn_core.specs.History.{Moment, History, Fits}
-use Rattle.turn_core.specs.Steps.{take, commit, opening_moment, Step, loads, takes, fails, exchanges, commits, leaves, goes_out, comes_home, splits, joins}
+use Rattle.turn_core.specs.Steps.{IsEventOrNone, take, commit, opening_moment, Step, loads, takes, fails, hands_out, hands_back, commits, leaves, goes_out, comes_home, splits, joins}
 use Rattle.turn_core.specs.declared.view.View.{View}
 use Rattle.turn_core.proofs.Standing.{holder_odd}
 use Rattle.turn_core.proofs.SplitAndJoin.{split_keeps, join_keeps}
@@ -55,7 +55,8 @@ module _ {S B E : Type 0} (base_of : S → B) (entries_of : S → List E) (sessi
       let same : all.2.0 ≡ value = same_Some all.2.0 value (some-injective (Some all.2.0) (Some value) (sym all.2.1 ∙ there)) in
       subst Stands (sym e) (subst (λ journal. Stands (take m i v journal)) (sym all.2.3 ∙ ap entries_of same) (take_keeps base_of entries_of session base m h i v own.0 own.1 free even))
   step_keeps m n h (fails i v own e) = subst Stands (sym e) (load_keeps base_of entries_of session base m h i v own.0 own.1)
-  step_keeps m n h (exchanges e) = subst Stands (sym e) h
+  step_keeps m n h (hands_out i v own full e) = subst Stands (sym e) h
+  step_keeps m n h (hands_back i v own full e) = subst Stands (sym e) h
   step_keeps m n h (commits i v value own full same_base adds e) = let is = holder_odd base_of entries_of session base m h i v own.0 full.0 in
       let journal : entries_of value ≡ h.history ++ adds.0 ∷ [] = adds.1 ∙ ap (λ l. l ++ adds.0 ∷ []) is.2 in
       subst Stands (sym e) (subst (λ l. Stands (commit m i v value l)) (sym journal) (commit_keeps base_of entries_of session base m h i v value adds.0 own.0 own.1 full.0 full.1 same_base journal adds.2))
@@ -64,3 +65,17 @@ module _ {S B E : Type 0} (base_of : S → B) (entries_of : S → List E) (sessi
   step_keeps m n h (comes_home i v own holds e) = subst Stands (sym e) (slot_in_keeps base_of entries_of session base m h i v own.0 own.1 holds)
   step_keeps m n h (splits i v own free halves e) = subst Stands (sym e) (split_keeps base_of entries_of session base m h i v own.0 own.1 free halves)
   step_keeps m n h (joins i j v other own own' apart free free' full e) = subst Stands (sym e) (join_keeps base_of entries_of session base m h i v j other own.0 own'.0 apart own.1 free free' full)
+
+  -- a commit is the one step that adds an entry
+  pub step_events : (m n : Moment S B E) → Stands m → Step base_of entries_of session base m n → IsEventOrNone m n
+  step_events m n h (loads i v own e) = inl (ap (λ x. x.word / 2) e)
+  step_events m n h (takes i v value own free even there e) = let w : n.word ≡ m.word + 1 = ap (λ x. x.word) e in inl (omega arith)
+  step_events m n h (fails i v own e) = inl (ap (λ x. x.word / 2) e)
+  step_events m n h (hands_out i v own full e) = inl (ap (λ x. x.word / 2) e)
+  step_events m n h (hands_back i v own full e) = inl (ap (λ x. x.word / 2) e)
+  step_events m n h (commits i v value own full same_base adds e) = inr ((holder_odd base_of entries_of session base m h i v own.0 full.0).3, ap (λ x. x.word) e)
+  step_events m n h (leaves i v value own full same_base same e) = let odd : m.word % 2 ≡ 1 = (holder_odd base_of entries_of session base m h i v own.0 full.0).3 in let w : n.word ≡ m.word - 1 = ap (λ x. x.word) e in inl (omega arith)
+  step_events m n h (goes_out i v own vacant e) = inl (ap (λ x. x.word / 2) e)
+  step_events m n h (comes_home i v own holds e) = inl (ap (λ x. x.word / 2) e)
+  step_events m n h (splits i v own free halves e) = inl (ap (λ x. x.word / 2) e)
+  step_events m n h (joins i j v other own own' apart free free' full e) = inl (ap (λ x. x.word / 2) e)

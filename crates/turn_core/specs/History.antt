@@ -43,7 +43,7 @@ module _ {B E : Type 0} where
     -- half of each word that it has found is at most the number of entries
     pub found : v.knows.found / 2 ≤ length history
     pub found_before : v.knows.found_before / 2 ≤ length history
-    -- both fronts that were last put together begin what was seen
+    -- the shorter of the two fronts that were last put together begins what was seen
     pub shorter : IsFront v.shorter v.knows.seen
 
   -- the slot is at home, with a value of this base whose journal is the history

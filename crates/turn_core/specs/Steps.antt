@@ -1,6 +1,5 @@
 -- The kinds of step. Each changes the word and the slot as said, and the own view of the pass that makes it: here the view `v`, which is the i-th.
--- Where a value goes out of the slot or into it, the pass has the slot, so neither the word, the slot's place nor a view changes.
-use Rattle.std.specs.Prelude.{◌≡◌, ◌≢◌, ℕ, ◌+◌, ◌-◌, ◌%◌, ◌<◌, List, [], ◌∷◌, ◌++◌, set, true, false, Some}
+use Rattle.std.specs.Prelude.{◌≡◌, ◌≢◌, ℕ, ◌+◌, ◌-◌, ◌/◌, ◌%◌, ◌<◌, ◌⊎◌, List, [], ◌∷◌, ◌++◌, set, true, false, Some}
 use Rattle.std.specs.Prelude as std
 use mathlib.Core.Option.{none, some}
 use lib.ListN.{get_elem?}
@@ -25,6 +24,14 @@ module _ {S B E : Type 0} (m : Moment S B E) (i : ℕ) (v : View B E) where
   -- failed take: as a load
   abbrev pub failed_take : Moment S B E
   failed_take = load
+
+  -- value out of the slot: the pass has the slot, and hands the value in it to its caller, so nothing changes here
+  abbrev pub value_out : Moment S B E
+  value_out = m
+
+  -- value into the slot: the caller hands the value back, and nothing changes here either
+  abbrev pub value_in : Moment S B E
+  value_in = m
 
   -- commit: the word is one more, the slot comes home with the value, and the view gains its last place and holds no more
   abbrev pub commit : S → List E → Moment S B E
@@ -54,6 +61,10 @@ module _ {S B E : Type 0} (m : Moment S B E) (i : ℕ) (v : View B E) where
 abbrev pub Full : {B E : Type 0} → View B E → Type 0
 Full v = (v.knows.holds ≡ true) × (v.vacant ≡ false)
 
+-- The number of entries, which is half of the word, stays; or an entry takes its place, as the word goes from odd to even by one.
+abbrev pub IsEventOrNone : {S B E : Type 0} → Moment S B E → Moment S B E → Type 0
+IsEventOrNone m n = (n.word / 2 ≡ m.word / 2) ⊎ ((m.word % 2 ≡ 1) × (n.word ≡ m.word + 1))
+
 module _ {S B E : Type 0} (base_of : S → B) (entries_of : S → List E) (session : E → ℕ) (base : B) where
   -- the table at the opening: the word is 1, the slot is empty, and one view holds the turn over the empty history and has all parts
   abbrev pub opening_moment : Moment S B E
@@ -64,7 +75,8 @@ module _ {S B E : Type 0} (base_of : S → B) (entries_of : S → List E) (sessi
     loads : (i : ℕ) (v : View B E) → Own m i v → n ≡ load m i v → Step m n
     takes : (i : ℕ) (v : View B E) (value : S) → Own m i v → v.knows.holds ≡ false → m.word % 2 ≡ 0 → m.slot ≡ some (Some value) → n ≡ take m i v (entries_of value) → Step m n
     fails : (i : ℕ) (v : View B E) → Own m i v → n ≡ failed_take m i v → Step m n
-    exchanges : n ≡ m → Step m n
+    hands_out : (i : ℕ) (v : View B E) → Own m i v → Full v → n ≡ value_out m i v → Step m n
+    hands_back : (i : ℕ) (v : View B E) → Own m i v → Full v → n ≡ value_in m i v → Step m n
     commits : (i : ℕ) (v : View B E) (value : S) → Own m i v → Full v → base_of value ≡ base → Adds session v.knows (entries_of value) → n ≡ commit m i v value (entries_of value) → Step m n
     leaves : (i : ℕ) (v : View B E) (value : S) → Own m i v → Full v → base_of value ≡ base → entries_of value ≡ v.knows.seen → n ≡ leave m i v value → Step m n
     goes_out : (i : ℕ) (v : View B E) → Own m i v → v.vacant ≡ true → n ≡ slot_out m i v → Step m n

@@ -53,7 +53,9 @@ impl<S: Journaled> Turn<S> {
         Ok((Turn { table }, Pass { seat }))
     }
 
-    /// Tries to take the turn, and waits for nobody.
+    /// Tries to take the turn, and waits for nobody. Held gives the value, whose journal is the whole history and begins with
+    /// all that the pass had seen. Busy gives a word that a step of this call found: an odd one, or one that is greater than
+    /// the even word which the step before found.
     pub fn try_take(&self, pass: &mut Pass<S>) -> Tried<S>
         requires turn { pass.old.turn ≡ self.now.turn }
         requires free { pass.old.knows.holds ≡ false }
@@ -77,7 +79,8 @@ impl<S: Journaled> Turn<S> {
         }
     }
 
-    /// Gives the turn up with a value that has one entry more, which takes its place in the history here.
+    /// Gives the turn up with a value that has one entry more, which takes its place in the history here. The entry opens its
+    /// session, or is of a session that the pass opened.
     pub fn commit(&self, pass: &mut Pass<S>, state: S)
         requires turn { pass.old.turn ≡ self.now.turn }
         requires holds { pass.old.knows.holds ≡ true }

@@ -4,7 +4,7 @@ ghost use Rattle.turn_core.specs.Knowledge.{all_parts};
 ghost use Rattle.turn_rows.specs.Work.{Holds, HasAll, IsFresh};
 
 use crate::journal::Journal;
-use crate::threads::{four, pair};
+use crate::threads::{alone, four, pair};
 use crate::worker::take;
 use std::alloc::Global;
 use std::sync::Wait;
@@ -37,7 +37,17 @@ pub fn take_all<R: Wait>(rt: &R, turn: &Turn<Journal>, pass: &mut Pass<Journal>)
     journal
 }
 
-/// Two threads make `commits` entries each, of a session of their own. Answers the journal if all were made.
+/// One thread makes `commits` entries of one session. Answers the journal if all were made.
+pub fn run_one<R: Wait>(rt: &R, alloc: Global, commits: u64) -> Option<Journal> {
+    let (turn, pass) = start(alloc, 1)?;
+    let worked = alone(rt, &turn, pass, commits);
+    let mut pass = worked.pass;
+    let journal = take_all(rt, &turn, &mut pass);
+    turn.close(pass);
+    worked.all.then_some(journal)
+}
+
+/// Two threads make `commits` entries each, of a session of their own.
 pub fn run_two<R: Threads + Wait + Sync>(rt: &R, alloc: Global, commits: u64) -> Option<Journal> {
     let (turn, pass) = start(alloc, 2)?;
     let worked = pair(rt, &turn, pass, commits);
@@ -47,7 +57,7 @@ pub fn run_two<R: Threads + Wait + Sync>(rt: &R, alloc: Global, commits: u64) ->
     worked.all.then_some(journal)
 }
 
-/// Four threads do.
+/// Four threads do the same.
 pub fn run_four<R: Threads + Wait + Sync>(rt: &R, alloc: Global, commits: u64) -> Option<Journal> {
     let (turn, pass) = start(alloc, 4)?;
     let worked = four(rt, &turn, pass, commits);

@@ -61,7 +61,7 @@ pub fn add<R: Wait>(rt: &R, turn: &Turn<Journal>, pass: &mut Pass<Journal>, entr
     added
 }
 
-/// Opens a session and makes `commits` entries of it in all, its opening among them; says whether all were made.
+/// Opens a session and makes `commits` entries of it in all, which are at least its opening; says whether all were made.
 pub fn work<R: Wait>(rt: &R, turn: &Turn<Journal>, pass: &mut Pass<Journal>, commits: u64) -> bool
     requires turn { pass.old.turn ≡ turn.now.turn }
     requires free { pass.old.knows.holds ≡ false }
