@@ -9,7 +9,7 @@ use super::ipv4::{print_ipv4, read_ipv4};
 use super::ipv6::read_ipv6;
 use super::ipv6_text::print_ipv6;
 use super::{AddrError, Family};
-use fw_base::{Memory, Text, TryCopy};
+use fw_base::{Memory, Text};
 use std::alloc::Global;
 
 /// An IPv4 or IPv6 address as a number, the first octet the most significant.
@@ -38,12 +38,6 @@ impl Addr {
             Addr::V4(_) => 32,
             Addr::V6(_) => 128,
         }
-    }
-}
-
-impl TryCopy for Addr {
-    fn copy(&self, _alloc: Global) -> Result<Addr, Memory> {
-        Ok(*self)
     }
 }
 

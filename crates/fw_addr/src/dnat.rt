@@ -1,17 +1,9 @@
 //! Where a packet is sent in place of its destination.
 use super::Addr;
-use fw_base::{Memory, TryCopy};
-use std::alloc::Global;
 
 /// The address, the port or both that a packet's destination becomes.
 #[derive(Clone, Copy, Debug, PartialEq, Eq)]
 pub struct Dnat {
     pub addr: Option<Addr>,
     pub port: Option<u16>,
-}
-
-impl TryCopy for Dnat {
-    fn copy(&self, _alloc: Global) -> Result<Dnat, Memory> {
-        Ok(*self)
-    }
 }

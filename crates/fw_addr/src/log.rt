@@ -24,7 +24,7 @@ pub enum Level {
 }
 
 /// A line of the log.
-#[derive(Drop)]
+#[derive(Clone, Drop)]
 pub struct LogLine {
     pub kind: LogKind,
     pub level: Level,
@@ -32,25 +32,8 @@ pub struct LogLine {
     pub prefix: Text,
 }
 
-impl TryCopy for LogKind {
-    fn copy(&self, _alloc: Global) -> Result<LogKind, Memory> {
-        Ok(*self)
-    }
-}
-
-impl TryCopy for Level {
-    fn copy(&self, _alloc: Global) -> Result<Level, Memory> {
-        Ok(*self)
-    }
-}
-
 impl TryCopy for LogLine {
-    fn copy(&self, alloc: Global) -> Result<LogLine, Memory> {
-        let prefix = self.prefix.copy(alloc)?;
-        Ok(LogLine {
-            kind: self.kind,
-            level: self.level,
-            prefix,
-        })
+    fn copy(&self, _alloc: Global) -> Result<LogLine, Memory> {
+        Ok(self.clone()?)
     }
 }

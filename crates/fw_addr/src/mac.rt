@@ -7,7 +7,7 @@ ghost use Rattle.fw_addr.specs.Hardware.{hex_octet, mac, mac_text};
 
 use super::AddrError;
 use super::hexadecimal::{push_octet, read_hex};
-use fw_base::{Memory, Text, TryCopy};
+use fw_base::{Memory, Text};
 use fw_text::cut;
 use std::alloc::Global;
 use std::marker::Model;
@@ -29,12 +29,6 @@ impl Model for Mac {
     ghost invariant = { λ mac. mac.0 < 2 ^ 48 };
 
     ghost inverse = { λ number. record { 0 = number } };
-}
-
-impl TryCopy for Mac {
-    fn copy(&self, _alloc: Global) -> Result<Mac, Memory> {
-        Ok(*self)
-    }
 }
 
 /// Reads a hardware address: six octets of two hexadecimal digits of either case, joined by `:`.

@@ -7,7 +7,7 @@ ghost use Rattle.fw_addr.specs.Subnets.{SharesBits, SharesPrefix, cleared, in_ne
 use super::addr::{parse_addr, print_addr};
 use super::ipv4::read_ipv4;
 use super::{Addr, AddrError};
-use fw_base::{Memory, Text, TryCopy};
+use fw_base::{Memory, Text};
 use fw_text::{cut, read_number};
 use std::alloc::Global;
 use std::marker::Model;
@@ -77,12 +77,6 @@ impl Net {
             (Addr::V6(first), Addr::V6(number)) => begins_u128(number, first, prefix),
             _ => false,
         }
-    }
-}
-
-impl TryCopy for Net {
-    fn copy(&self, _alloc: Global) -> Result<Net, Memory> {
-        Ok(*self)
     }
 }
 

@@ -1,6 +1,4 @@
 //! What a rule asks of a packet besides its addresses and ports.
-use fw_base::{Memory, TryCopy};
-use std::alloc::Global;
 
 /// A family of IP addresses.
 #[derive(Clone, Copy, Debug, PartialEq, Eq)]
@@ -24,22 +22,4 @@ pub enum PktType {
     Unicast,
     Broadcast,
     Multicast,
-}
-
-impl TryCopy for Family {
-    fn copy(&self, _alloc: Global) -> Result<Family, Memory> {
-        Ok(*self)
-    }
-}
-
-impl TryCopy for CtState {
-    fn copy(&self, _alloc: Global) -> Result<CtState, Memory> {
-        Ok(*self)
-    }
-}
-
-impl TryCopy for PktType {
-    fn copy(&self, _alloc: Global) -> Result<PktType, Memory> {
-        Ok(*self)
-    }
 }

@@ -4,7 +4,7 @@ ghost use Rattle.std.specs.Option.{ok_or};
 ghost use Rattle.fw_addr.specs.Ports.{port, port_range, ports_text, in_range};
 
 use super::AddrError;
-use fw_base::{Memory, Text, TryCopy};
+use fw_base::{Memory, Text};
 use fw_text::{cut, read_number};
 use std::alloc::Global;
 use std::marker::Model;
@@ -35,12 +35,6 @@ impl PortRange {
         ensures { result ≡ in_range self.now port }
     {
         self.first <= port && port <= self.last
-    }
-}
-
-impl TryCopy for PortRange {
-    fn copy(&self, _alloc: Global) -> Result<PortRange, Memory> {
-        Ok(*self)
     }
 }
 

@@ -5,7 +5,7 @@ ghost use Rattle.fw_text.specs.Names.{name_of, named};
 ghost use Rattle.fw_addr.specs.Protocols.{port_proto, port_proto_text, proto, proto_names, proto_number, proto_text};
 
 use super::AddrError;
-use fw_base::{Memory, Text, TryCopy};
+use fw_base::{Memory, Text};
 use fw_text::read_number;
 use std::alloc::Global;
 use std::marker::Model;
@@ -45,12 +45,6 @@ impl PortProto {
     }
 }
 
-impl TryCopy for PortProto {
-    fn copy(&self, _alloc: Global) -> Result<PortProto, Memory> {
-        Ok(*self)
-    }
-}
-
 /// An IP protocol by its number in IANA's registry. Contracts see the number.
 #[derive(Clone, Copy, Debug, PartialEq, Eq)]
 pub struct Proto(pub u8);
@@ -63,12 +57,6 @@ impl Model for Proto {
     ghost view = { λ proto. proto.0 };
 
     ghost inverse = { λ number. record { 0 = number } };
-}
-
-impl TryCopy for Proto {
-    fn copy(&self, _alloc: Global) -> Result<Proto, Memory> {
-        Ok(*self)
-    }
 }
 
 /// Reads the name of a protocol that has ports: `tcp`, `udp`, `sctp` or `dccp`.

@@ -1,6 +1,4 @@
 //! How a packet is rejected.
-use fw_base::{Memory, TryCopy};
-use std::alloc::Global;
 
 /// What the sender of a rejected packet is told, by the names of nft(8): an ICMP or ICMPv6 message, one of
 /// the packet's own family (`Icmpx`), or a TCP reset.
@@ -20,10 +18,4 @@ pub enum RejectType {
     IcmpxAdminProhibited,
     IcmpxPortUnreachable,
     TcpReset,
-}
-
-impl TryCopy for RejectType {
-    fn copy(&self, _alloc: Global) -> Result<RejectType, Memory> {
-        Ok(*self)
-    }
 }

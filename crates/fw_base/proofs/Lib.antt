@@ -1,1 +1,2 @@
 pub mod FrontRead
+pub mod PieceWritten

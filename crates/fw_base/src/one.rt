@@ -2,7 +2,7 @@
 ghost use Rattle.std.specs.Prelude.{◌≡◌, IfOk};
 
 use super::{Memory, TryCopy};
-use std::alloc::Global;
+use std::alloc::{AllocError, Global};
 use std::marker::Model;
 
 /// A box. Contracts see the value in it.
@@ -46,7 +46,32 @@ impl<T: Drop> One<T> {
     }
 }
 
-impl<T: TryCopy + Drop> TryCopy for One<T> {
+impl<T: PartialEq> PartialEq for One<T> {
+    ghost eq = { T.eq };
+
+    ghost laws = { T.laws };
+
+    fn eq(&self, other: &One<T>) -> bool {
+        self.get() == other.get()
+    }
+}
+
+impl<T: Eq> Eq for One<T> {
+    ghost laws = { T.Eq.laws };
+}
+
+impl<T: TryCopy> Clone for One<T> {
+    ghost is_clone = { λ one copied. copied ≡ one };
+
+    fn clone(&self) -> Result<One<T>, AllocError> {
+        match self.copy(*Box::allocator(&self.boxed)) {
+            Ok(copied) => Ok(copied),
+            Err(Memory) => Err(AllocError),
+        }
+    }
+}
+
+impl<T: TryCopy> TryCopy for One<T> {
     fn copy(&self, alloc: Global) -> Result<One<T>, Memory> {
         let value = self.get().copy(alloc)?;
         One::of(alloc, value)

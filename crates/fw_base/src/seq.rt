@@ -2,7 +2,7 @@
 ghost use Rattle.std.specs.Prelude.{◌≡◌, [], ◌∷◌, ◌++◌, length, IfOk, OnOk, OnErr};
 
 use super::{Memory, TryCopy};
-use std::alloc::Global;
+use std::alloc::{AllocError, Global};
 use std::marker::Model;
 
 /// A vector. Contracts see the list of its items, so that two sequences with the same items are equal.
@@ -65,12 +65,38 @@ impl<T: Drop> Seq<T> {
     }
 }
 
-impl<T: TryCopy + Drop> TryCopy for Seq<T> {
-    fn copy(&self, alloc: Global) -> Result<Seq<T>, Memory> {
-        let mut copied = Seq::new(alloc);
-        for item in self.as_slice() {
-            copied.push(item.copy(alloc)?)?;
+impl<T: PartialEq> PartialEq for Seq<T> {
+    ghost use Rattle.std.specs.Cmp.Lexicographic.{pointwise, lists_per};
+
+    ghost eq = { pointwise T.eq };
+
+    ghost laws = { lists_per T.laws };
+
+    fn eq(&self, other: &Seq<T>) -> bool {
+        self.items == other.items
+    }
+}
+
+impl<T: Eq> Eq for Seq<T> {
+    ghost use Rattle.std.specs.Cmp.Lexicographic.{lists_equiv};
+
+    ghost laws = { lists_equiv T.Eq.laws };
+}
+
+impl<T: TryCopy> Clone for Seq<T> {
+    ghost is_clone = { λ seq copied. copied ≡ seq };
+
+    fn clone(&self) -> Result<Seq<T>, AllocError> {
+        match self.copy(*self.items.allocator()) {
+            Ok(copied) => Ok(copied),
+            Err(Memory) => Err(AllocError),
         }
-        Ok(copied)
+    }
+}
+
+impl<T: TryCopy> TryCopy for Seq<T> {
+    fn copy(&self, alloc: Global) -> Result<Seq<T>, Memory> {
+        let items = T::copy_all(alloc, self.as_slice())?;
+        Ok(Seq { items })
     }
 }

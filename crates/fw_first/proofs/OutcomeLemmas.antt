@@ -1,6 +1,6 @@
 -- The rules that open a list of ports give the outcome that the manual says.
-use Rattle.std.proofs.Common.{◌≡◌, List, [], ◌∷◌, ◌++◌, map, Bool, true, false, IsTrue, ◌||◌, if◌then◌else◌, codes, Some, None, unwrap_or, ◌&&◌, refl, ap, subst, ◌∙◌}
-use Rattle.std.specs.List.{list_any}
+use Rattle.std.proofs.Common.{◌≡◌, List, [], ◌∷◌, ◌++◌, map, Bool, true, false, IsTrue, ◌||◌, if◌then◌else◌, codes, pos, Some, None, unwrap_or, ◌&&◌, refl, ap, subst, ◌∙◌}
+use Rattle.std.specs.List.{list_all, list_any}
 use Rattle.std.specs.Option.{option_or}
 use Rattle.fw_addr.specs.declared.reject.RejectType.TheVariants.{IcmpxAdminProhibited}
 use Rattle.fw_first.specs.Outcomes.{first_outcome, is_let_in}
@@ -15,13 +15,16 @@ use Rattle.fw_model.specs.declared.packet.Origin.{Origin}
 use Rattle.fw_model.specs.declared.packet.Origin.TheVariants.{Host, Link}
 use Rattle.fw_model.specs.declared.packet.Packet.{Packet}
 use Rattle.fw_model.specs.declared.port.Port.{Port}
-use Rattle.nf_eval.specs.Evaluation.{Eval, rules_met}
+use Rattle.nf_eval.specs.Evaluation.{Eval, IsOneInputChain, rules_met}
+use Rattle.nf_eval.specs.Decisions.{is_plain_rule}
 use Rattle.nf_eval.specs.Tests.{came_in_by, test_holds}
 use Rattle.nf_eval.specs.Verdicts.{FirstRuleDecides, chain_verdict}
 use Rattle.nf_rules.specs.declared.chain.Chain.{Chain}
+use Rattle.nf_rules.specs.declared.chain.ChainKind.TheVariants.{Filter}
+use Rattle.nf_rules.specs.declared.chain.Hook.TheVariants.{Input}
 use Rattle.nf_rules.specs.declared.rule.Rule.{Rule}
-use Rattle.nf_rules.specs.declared.rule.Test.{Test}
-use Rattle.nf_rules.specs.declared.rule.Test.TheVariants.{In, Dport}
+use Rattle.nf_rules.specs.declared.test.Test.{Test}
+use Rattle.nf_rules.specs.declared.test.Test.TheVariants.{In, Dport}
 
 -- one verdict or else another
 abbrev either : Bool → Verdict → Verdict → Verdict
@@ -74,3 +77,14 @@ pub first_eval : FirstRuleDecides → (ports : List Port) (packet : Packet) → 
 first_eval law ports packet is =
     subst (λ (verdict : Verdict). Eval (first_ruleset ports) packet (plain_outcome verdict)) (first_verdict packet ports is)
     (law (first_ruleset ports) (first_chain ports) packet refl)
+
+-- the rules for ports, and the reject, are plain
+plain-ports : (ports : List Port) → IsTrue (list_all is_plain_rule (map port_rule ports ++ final_rule ∷ []))
+plain-ports [] = refl
+plain-ports (port ∷ ports) = plain-ports ports
+
+-- the ruleset is one chain at input of plain rules
+pub first_form : (ports : List Port) → IsOneInputChain (first_ruleset ports)
+first_form ports = record {
+  chain = first_chain ports; base = record { kind = Filter; hook = Input; priority = pos 10 };
+  alone = refl; hooked = refl; filters = refl; at_input = refl; plain = plain-ports ports }

@@ -5,11 +5,11 @@ use Rattle.fw_model.specs.declared.port.Port.{Port}
 use Rattle.nf_rules.specs.declared.chain.Chain.{Chain}
 use Rattle.nf_rules.specs.declared.chain.ChainKind.TheVariants.{Filter}
 use Rattle.nf_rules.specs.declared.chain.Hook.TheVariants.{Input}
-use Rattle.nf_rules.specs.declared.chain.Ruleset.{Ruleset}
+use Rattle.nf_rules.specs.declared.ruleset.Ruleset.{Ruleset}
 use Rattle.nf_rules.specs.declared.rule.Rule.{Rule}
-use Rattle.nf_rules.specs.declared.rule.Stmt.TheVariants.{Accept, Reject}
-use Rattle.nf_rules.specs.declared.rule.Test.{Test}
-use Rattle.nf_rules.specs.declared.rule.Test.TheVariants.{In, Dport}
+use Rattle.nf_rules.specs.declared.statement.Stmt.TheVariants.{Accept, Reject}
+use Rattle.nf_rules.specs.declared.test.Test.{Test}
+use Rattle.nf_rules.specs.declared.test.Test.TheVariants.{In, Dport}
 
 -- TEST accept
 abbrev pub accept_where : Test → Rule
@@ -40,6 +40,6 @@ first_chain ports =
       rules = first_rules ports;
     }
 
--- The whole ruleset.
+-- The whole ruleset, without sets and maps.
 abbrev pub first_ruleset : List Port → Ruleset
-first_ruleset ports = record { chains = first_chain ports ∷ [] }
+first_ruleset ports = record { chains = first_chain ports ∷ []; sets = []; maps = [] }

@@ -8,7 +8,7 @@ ghost use Rattle.nf_eval.specs.Evaluation.{Eval, IsOneInputChain};
 
 use crate::chain::first_chain;
 use crate::rules::list_of;
-use fw_base::Memory;
+use fw_base::{Memory, Seq};
 use fw_model::Port;
 use nf_eval::first_rule_decides;
 use nf_rules::Ruleset;
@@ -37,5 +37,7 @@ fn first_ruleset(alloc: Global, ports: &[Port]) -> Result<Ruleset, Memory>
     let chain = first_chain(alloc, ports)?;
     Ok(Ruleset {
         chains: list_of(alloc, chain)?,
+        sets: Seq::new(alloc),
+        maps: Seq::new(alloc),
     })
 }

@@ -1,8 +1,8 @@
 //! The ruleset of one open port, and what becomes of packets under it.
 use super::compile_first;
 use fw_addr::{Addr, PortProto, Proto, read_ports};
-use fw_base::{Memory, Text, TryCopy};
-use fw_model::{Origin, Packet, Port, RejectType, Verdict};
+use fw_base::{Memory, Seq, Text, TryCopy};
+use fw_model::{CtState, Origin, Packet, PktType, Port, RejectType, Verdict};
 use nf_eval::eval_uncounted;
 use std::alloc::Global;
 use std::test::Fail;
@@ -16,9 +16,18 @@ fn packet(alloc: Global, link: &str, proto: u8, dport: u16) -> Result<Packet, Me
         origin: Origin::Link(Text::of(alloc, link)?),
         src: Addr::V4(0xc000_0201),
         dst: Addr::V4(0xc633_6401),
+        mac: None,
         proto: Proto(proto),
         sport: 40_000,
         dport,
+        icmp_type: 0,
+        icmp_code: 0,
+        state: CtState::New,
+        dnat: false,
+        pkt: PktType::Unicast,
+        mark: 0,
+        limits: Seq::new(alloc),
+        routes: Seq::new(alloc),
     })
 }
 

@@ -1,10 +1,12 @@
 -- What follows the word `packet`: its fields as words, each a key, `=` and a value (this project's own spelling).
-use Rattle.std.specs.Prelude.{ℕ, ◌&&◌, if◌then◌else◌, codes, is_none, List, Option, None, Some}
+use Rattle.std.specs.Prelude.{ℕ, ◌&&◌, if◌then◌else◌, codes, is_none, false, List, [], Option, None, Some}
 use Rattle.fw_text.specs.Number.{number_to}
 use Rattle.fw_addr.specs.Addresses.{address}
 use Rattle.fw_addr.specs.Interfaces.{before_plus, is_interface}
 use Rattle.fw_addr.specs.Protocols.{proto}
 use Rattle.fw_addr.specs.declared.addr.Addr.{Addr}
+use Rattle.fw_addr.specs.declared.packet.CtState.TheVariants.{New}
+use Rattle.fw_addr.specs.declared.packet.PktType.TheVariants.{Unicast}
 use Rattle.fw_model.specs.Packets.{has_ports, is_v4}
 use Rattle.fw_model.specs.declared.packet.Origin.TheVariants.{Link}
 use Rattle.fw_model.specs.declared.packet.Packet.{Packet}
@@ -23,6 +25,12 @@ with_ports n = if has_ports n then Some n else None
 abbrev pub link_name : List ℕ → Option (List ℕ)
 link_name text = if is_interface text && is_none (before_plus text) then Some text else None
 
+-- a new packet of an interface, sent to this host alone, with no mark, of which nothing else is told
+abbrev pub packet_between : List ℕ → Addr → Addr → ℕ → ℕ → ℕ → Packet
+packet_between name source destination protocol from to = record {
+    origin = Link name; src = source; dst = destination; mac = None; proto = protocol; sport = from; dport = to;
+    icmp_type = 0; icmp_code = 0; state = New; dnat = false; pkt = Unicast; mark = 0; limits = []; routes = [] }
+
 -- `src=ADDRESS dst=ADDRESS proto=PROTOCOL sport=PORT in=NAME dport=PORT`
 unfoldable pub packet_of : List (List ℕ) → Option Packet
 packet_of words = do
@@ -38,4 +46,4 @@ packet_of words = do
   name ← link_name link.0
   dport ← value_of (codes "dport=") link.1
   to ← number_to 65535 dport.0
-  at_end (record { origin = Link name; src = source; dst = destination; proto = protocol; sport = from; dport = to }) dport.1
+  at_end (packet_between name source destination protocol from to) dport.1

@@ -12,8 +12,8 @@ ghost use Rattle.fw_line.specs.Packets.{link_name, only_v4, packet_of, with_port
 use super::LineError;
 use super::words::Words;
 use fw_addr::{Addr, Proto, read_addr, read_iface, read_proto};
-use fw_base::Text;
-use fw_model::{Origin, Packet};
+use fw_base::{Seq, Text};
+use fw_model::{CtState, Origin, Packet, PktType};
 use fw_text::read_number;
 use std::alloc::Global;
 
@@ -35,9 +35,18 @@ pub fn read_packet(alloc: Global, words: &mut Words) -> Result<Packet, LineError
         origin,
         src,
         dst,
+        mac: None,
         proto,
         sport,
         dport,
+        icmp_type: 0,
+        icmp_code: 0,
+        state: CtState::New,
+        dnat: false,
+        pkt: PktType::Unicast,
+        mark: 0,
+        limits: Seq::new(alloc),
+        routes: Seq::new(alloc),
     })
 }
 

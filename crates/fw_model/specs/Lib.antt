@@ -1,3 +1,4 @@
+pub mod Codes
 pub mod Outcomes
 pub mod Packets
 pub mod Ports

@@ -16,7 +16,7 @@ pub enum Verdict {
 }
 
 /// A packet's verdict, and what else was done with it.
-#[derive(Drop)]
+#[derive(Clone, Drop)]
 pub struct Outcome {
     pub verdict: Verdict,
     /// The packet's mark.
@@ -44,20 +44,8 @@ impl Outcome {
     }
 }
 
-impl TryCopy for Verdict {
-    fn copy(&self, _alloc: Global) -> Result<Verdict, Memory> {
-        Ok(*self)
-    }
-}
-
 impl TryCopy for Outcome {
-    fn copy(&self, alloc: Global) -> Result<Outcome, Memory> {
-        Ok(Outcome {
-            verdict: self.verdict,
-            mark: self.mark,
-            dnat: self.dnat,
-            masquerade: self.masquerade,
-            logs: self.logs.copy(alloc)?,
-        })
+    fn copy(&self, _alloc: Global) -> Result<Outcome, Memory> {
+        Ok(self.clone()?)
     }
 }

@@ -6,7 +6,7 @@ use Rattle.fw_first.specs.Rules.{first_ruleset}
 use Rattle.fw_model.specs.declared.packet.Packet.{Packet}
 use Rattle.fw_model.specs.declared.port.Port.{Port}
 use Rattle.nf_eval.specs.Evaluation.{Eval, IsOneInputChain}
-use Rattle.nf_rules.specs.declared.chain.Ruleset.{Ruleset}
+use Rattle.nf_rules.specs.declared.ruleset.Ruleset.{Ruleset}
 
 -- The rules are those of the ports: evaluation gives every packet that is asked about the outcome that the ports give.
 pub record IsInstalled (ports : List Port) (rules : Ruleset) : Type 0 where

@@ -1,5 +1,5 @@
 -- What statements and rules decide for a packet (nft(8), "STATEMENTS" and "RULES").
-use Rattle.std.specs.Prelude.{List, [], ◌∷◌, Bool, true, ◌==◌, Option, None, Some, if◌then◌else◌}
+use Rattle.std.specs.Prelude.{List, [], ◌∷◌, Bool, true, false, ◌==◌, ◌&&◌, Option, None, Some, if◌then◌else◌}
 use Rattle.std.specs.List.{list_all}
 use Rattle.std.specs.Option.{option_or}
 use Rattle.fw_addr.specs.declared.reject.RejectType.{RejectType}
@@ -7,20 +7,32 @@ use Rattle.fw_addr.specs.declared.reject.RejectType.TheVariants.{TcpReset}
 use Rattle.fw_model.specs.declared.outcome.Verdict.{Verdict}
 use Rattle.fw_model.specs.declared.outcome.Verdict.TheVariants as verdict
 use Rattle.fw_model.specs.declared.packet.Packet.{Packet}
-use Rattle.nf_eval.specs.Tests.{match_holds}
+use Rattle.nf_eval.specs.Tests.{is_plain_test, match_holds}
 use Rattle.nf_rules.specs.declared.rule.Rule.{Rule}
-use Rattle.nf_rules.specs.declared.rule.Stmt.{Stmt}
-use Rattle.nf_rules.specs.declared.rule.Stmt.TheVariants as stmt
+use Rattle.nf_rules.specs.declared.statement.Stmt.{Stmt}
+use Rattle.nf_rules.specs.declared.statement.Stmt.TheVariants as stmt
 
 -- A reject with a reset answers TCP, protocol 6, alone (REJECT STATEMENT).
 abbrev pub can_reject : RejectType → Packet → Bool
 can_reject TcpReset packet = packet.proto == 6
 can_reject kind packet = true
 
--- What a statement decides. None: evaluation goes on behind it (VERDICT STATEMENTS).
+-- What a statement decides. None: evaluation goes on behind it (VERDICT STATEMENTS). The rulesets that are evaluated
+-- have no statements but accept and reject.
 abbrev pub decision : Packet → Stmt → Option Verdict
 decision packet stmt.Accept = Some verdict.Accept
 decision packet (stmt.Reject kind) = if can_reject kind packet then Some (verdict.Reject kind) else None
+decision packet other = None
+
+-- one of these two statements
+abbrev pub is_plain_statement : Stmt → Bool
+is_plain_statement stmt.Accept = true
+is_plain_statement (stmt.Reject kind) = true
+is_plain_statement other = false
+
+-- a rule of such tests and statements
+abbrev pub is_plain_rule : Rule → Bool
+is_plain_rule rule = list_all (λ tested. is_plain_test tested.test) rule.matches && list_all is_plain_statement rule.stmts
 
 -- What the first statement that decides anything decides.
 abbrev pub first_decision : Packet → List Stmt → Option Verdict

@@ -1,5 +1,6 @@
 -- The evaluation of a ruleset (nft(8), "CHAINS" and "RULES").
-use Rattle.std.specs.Prelude.{◌≡◌, ℕ, ◌+◌, List, [], ◌∷◌, sum_by, false, None, Some, is_some, slice_get, if◌then◌else◌}
+use Rattle.std.specs.Prelude.{◌≡◌, ℕ, ◌+◌, List, [], ◌∷◌, sum_by, false, None, Some, is_some, slice_get, IsTrue, if◌then◌else◌}
+use Rattle.std.specs.List.{list_all}
 use Rattle.fw_addr.specs.declared.log.LogLine.{LogLine}
 use Rattle.fw_model.specs.declared.outcome.Outcome.{Outcome}
 use Rattle.fw_model.specs.declared.outcome.Verdict.{Verdict}
@@ -7,15 +8,16 @@ use Rattle.fw_model.specs.declared.outcome.Verdict.TheVariants.{Accept}
 use Rattle.fw_model.specs.declared.packet.Origin.{Origin}
 use Rattle.fw_model.specs.declared.packet.Origin.TheVariants.{Host, Link}
 use Rattle.fw_model.specs.declared.packet.Packet.{Packet}
-use Rattle.nf_eval.specs.Decisions.{rule_decision}
+use Rattle.nf_eval.specs.Decisions.{is_plain_rule, rule_decision}
 use Rattle.nf_rules.specs.declared.chain.Base.{Base}
 use Rattle.nf_rules.specs.declared.chain.Chain.{Chain}
 use Rattle.nf_rules.specs.declared.chain.ChainKind.TheVariants.{Filter}
 use Rattle.nf_rules.specs.declared.chain.Hook.TheVariants.{Input}
-use Rattle.nf_rules.specs.declared.chain.Ruleset.{Ruleset}
+use Rattle.nf_rules.specs.declared.ruleset.Ruleset.{Ruleset}
 use Rattle.nf_rules.specs.declared.rule.Rule.{Rule}
 
--- A ruleset of one base chain, of kind filter at the hook input.
+-- A ruleset of one base chain, of kind filter at the hook input, whose rules are plain: they test the interface or the
+-- destination port, and accept or reject.
 pub record IsOneInputChain (rules : Ruleset) : Type 0 where
   pub chain : Chain
   pub base : Base
@@ -23,6 +25,7 @@ pub record IsOneInputChain (rules : Ruleset) : Type 0 where
   pub hooked : chain.base ≡ Some base
   pub filters : base.kind ≡ Filter
   pub at_input : base.hook ≡ Input
+  pub plain : IsTrue (list_all is_plain_rule chain.rules)
 
 -- The rules of a chain at input that a packet meets: all where it came by an interface. A packet of the host itself
 -- goes out, and meets none (ADDRESS FAMILIES, the hooks of inet).

@@ -8,7 +8,7 @@ use Rattle.fw_model.specs.declared.packet.Packet.{Packet}
 use Rattle.nf_eval.specs.Decisions.{rule_decision}
 use Rattle.nf_eval.specs.Evaluation.{Eval, rules_met}
 use Rattle.nf_rules.specs.declared.chain.Chain.{Chain}
-use Rattle.nf_rules.specs.declared.chain.Ruleset.{Ruleset}
+use Rattle.nf_rules.specs.declared.ruleset.Ruleset.{Ruleset}
 use Rattle.nf_rules.specs.declared.rule.Rule.{Rule}
 
 -- What the first rule that decides anything decides; accept where none does.

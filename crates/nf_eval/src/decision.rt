@@ -33,6 +33,7 @@ fn decision(packet: &Packet, statement: &Stmt) -> Option<Verdict>
                 None
             }
         }
+        _ => None,
     }
 }
 

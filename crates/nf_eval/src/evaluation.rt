@@ -13,7 +13,8 @@ use std::sync::ledger::{Blank, Ledger};
 
 /// What the ruleset makes of the packet. Each rule that is looked at is a step.
 ///
-/// The ruleset is one base chain, of kind filter at the hook input. A packet that came by an interface meets its
+/// The ruleset is one base chain, of kind filter at the hook input, whose rules test the interface that a packet came
+/// by or its destination port, and accept or reject. A packet that came by an interface meets its
 /// rules in order. The first that decides gives the verdict; where none does, the chain accepts.
 ///
 /// Refuses for want of memory alone, and the counter is then as before.

@@ -24,6 +24,7 @@ fn test_holds(packet: &Packet, test: &Test) -> bool
         Test::Dport(proto, range) => {
             packet.proto == proto.proto() && range.contains(packet.dport)
         }
+        _ => false,
     }
 }
 

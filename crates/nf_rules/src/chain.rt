@@ -1,4 +1,4 @@
-//! Rulesets and their chains.
+//! Chains of rules, and the hooks at which they see packets.
 use super::Rule;
 use fw_base::{Memory, Seq, Text, TryCopy};
 use std::alloc::Global;
@@ -37,44 +37,12 @@ pub struct Chain {
     pub rules: Seq<Rule>,
 }
 
-/// The table `inet firewalld`: its chains, in order of their names.
-#[derive(Drop)]
-pub struct Ruleset {
-    pub chains: Seq<Chain>,
-}
-
-impl TryCopy for Hook {
-    fn copy(&self, _alloc: Global) -> Result<Hook, Memory> {
-        Ok(*self)
-    }
-}
-
-impl TryCopy for ChainKind {
-    fn copy(&self, _alloc: Global) -> Result<ChainKind, Memory> {
-        Ok(*self)
-    }
-}
-
-impl TryCopy for Base {
-    fn copy(&self, _alloc: Global) -> Result<Base, Memory> {
-        Ok(*self)
-    }
-}
-
 impl TryCopy for Chain {
     fn copy(&self, alloc: Global) -> Result<Chain, Memory> {
         Ok(Chain {
             name: self.name.copy(alloc)?,
             base: self.base,
             rules: self.rules.copy(alloc)?,
-        })
-    }
-}
-
-impl TryCopy for Ruleset {
-    fn copy(&self, alloc: Global) -> Result<Ruleset, Memory> {
-        Ok(Ruleset {
-            chains: self.chains.copy(alloc)?,
         })
     }
 }

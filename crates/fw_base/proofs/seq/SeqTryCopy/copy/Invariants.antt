@@ -1,6 +1,0 @@
--- The copy so far is the front of the list.
-use Rattle.std.proofs.Common.{◌≡◌, take}
-use Rattle.fw_base.proofs.seq.SeqTryCopy.copy.Given as goal
-
-abbrev pub invariant-loop-item : goal.invariant-loop-item
-invariant-loop-item g l = l.copied ≡ take l.item-index l.item-items
