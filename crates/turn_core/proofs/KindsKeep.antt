@@ -13,7 +13,7 @@ use Rattle.turn_core.specs.History.{Moment, History, Fits}
 use Rattle.turn_core.specs.Steps.{load, take, commit, leave, slot_out, slot_in}
 use Rattle.turn_core.specs.declared.view.View.{View}
 use Rattle.turn_core.proofs.Places.{get_snoc, front_length, front_refl, front_trans, has_snoc, snoc_old, snoc_new, ascending_snoc}
-use Rattle.turn_core.proofs.Lists.{within, total-set, term_le, each_set, pairs_set}
+use Rattle.turn_core.proofs.Lists.{within, total_set, one_of, each_set, pairs_set}
 use Rattle.turn_core.proofs.Standing.{holding, parted, holding_yes, holding_no, one_there, half_is, holder_odd, no_other, based, quiet, fits_looked}
 
 not_true : (b : Bool) → (b ≡ true → ⊥) → b ≡ false
@@ -26,14 +26,14 @@ module _ {S B E : Type 0} (base_of : S → B) (entries_of : S → List E) (sessi
 
   -- load, and failed take
   pub load_keeps : (m : Moment S B E) (h : Stands m) (i : ℕ) (v : View B E) → get_elem? m.views i ≡ some v → 0 < v.knows.parts → Stands (load m i v)
-  load_keeps m h i v g some-part = let w = knowing v (looked v.knows m.word) in let sum = total-set holding m.views i v w g in
+  load_keeps m h i v g some-part = let w = knowing v (looked v.knows m.word) in let sum = total_set holding m.views i v w g in
       quiet base_of entries_of session base m h i v w m.word m.slot g refl refl (fits_looked base_of entries_of session base h.history v m.word (h.each i v g) some-part (omega (arith, half_is base_of entries_of session base m h)))
       (λ e. let t = h.even e in (t.0, omega (arith, t.1, sum), t.2)) (λ e. let t = h.odd e in (t.0, omega (arith, t.1, sum))) (λ j u n d. h.vacant j u d) (h.vacant i v g)
 
   -- take
   pub take_keeps : (m : Moment S B E) (h : Stands m) (i : ℕ) (v : View B E) → get_elem? m.views i ≡ some v → 0 < v.knows.parts → v.knows.holds ≡ false → m.word % 2 ≡ 0 → Stands (take m i v h.history)
-  take_keeps m h i v g some-part free even = let w = knowing v (took v.knows m.word h.history) in let sum = total-set holding m.views i v w g in let t = h.even even in let f = h.each i v g in
-      let nobody : (j : ℕ) (u : View B E) → get_elem? m.views j ≡ some u → u.vacant ≡ true → ⊥ = λ j u d e. let one = term_le holding m.views j u d in let yes = holding_yes u (h.vacant j u d e).0 in omega (arith, one, yes, t.1) in
+  take_keeps m h i v g some-part free even = let w = knowing v (took v.knows m.word h.history) in let sum = total_set holding m.views i v w g in let t = h.even even in let f = h.each i v g in
+      let nobody : (j : ℕ) (u : View B E) → get_elem? m.views j ≡ some u → u.vacant ≡ true → ⊥ = λ j u d e. let one = one_of holding m.views j u d in let yes = holding_yes u (h.vacant j u d e).0 in omega (arith, one, yes, t.1) in
       quiet base_of entries_of session base m h i v w (m.word + 1) none g refl refl
       record {
         lives = inr (based base_of entries_of session base h.history v f some-part, some-part);
@@ -50,7 +50,7 @@ module _ {S B E : Type 0} (base_of : S → B) (entries_of : S → List E) (sessi
 
   -- the slot goes out at the opening
   pub slot_out_keeps : (m : Moment S B E) (h : Stands m) (i : ℕ) (v : View B E) → get_elem? m.views i ≡ some v → 0 < v.knows.parts → v.vacant ≡ true → Stands (slot_out m i v)
-  slot_out_keeps m h i v g some-part vacant = let w : View B E = record v { knows = looked v.knows m.word; vacant = false } in let sum = total-set holding m.views i v w g in
+  slot_out_keeps m h i v g some-part vacant = let w : View B E = record v { knows = looked v.knows m.word; vacant = false } in let sum = total_set holding m.views i v w g in
       let holds = (h.vacant i v g vacant).0 in let is = holder_odd base_of entries_of session base m h i v g holds in
       let f = fits_looked base_of entries_of session base h.history v m.word (h.each i v g) some-part (omega (arith, half_is base_of entries_of session base m h)) in
       quiet base_of entries_of session base m h i v w m.word none g refl refl record { lives = inr (based base_of entries_of session base h.history v (h.each i v g) some-part, some-part); front = f.front; holder = f.holder; ascending = f.ascending; within = f.within; sessions = f.sessions; found = f.found; found_before = f.found_before; shorter = f.shorter }
@@ -59,7 +59,7 @@ module _ {S B E : Type 0} (base_of : S → B) (entries_of : S → List E) (sessi
 
   -- and comes home empty at the close
   pub slot_in_keeps : (m : Moment S B E) (h : Stands m) (i : ℕ) (v : View B E) → get_elem? m.views i ≡ some v → 0 < v.knows.parts → v.knows.holds ≡ true → Stands (slot_in m i v)
-  slot_in_keeps m h i v g some-part holds = let w : View B E = record v { knows = looked v.knows m.word; vacant = true } in let sum = total-set holding m.views i v w g in
+  slot_in_keeps m h i v g some-part holds = let w : View B E = record v { knows = looked v.knows m.word; vacant = true } in let sum = total_set holding m.views i v w g in
       let is = holder_odd base_of entries_of session base m h i v g holds in
       let f = fits_looked base_of entries_of session base h.history v m.word (h.each i v g) some-part (omega (arith, half_is base_of entries_of session base m h)) in
       quiet base_of entries_of session base m h i v w m.word (some std.None) g refl refl record { lives = inr (based base_of entries_of session base h.history v (h.each i v g) some-part, some-part); front = f.front; holder = f.holder; ascending = f.ascending; within = f.within; sessions = f.sessions; found = f.found; found_before = f.found_before; shorter = f.shorter }
@@ -69,7 +69,7 @@ module _ {S B E : Type 0} (base_of : S → B) (entries_of : S → List E) (sessi
   -- leave
   pub leave_keeps : (m : Moment S B E) (h : Stands m) (i : ℕ) (v : View B E) (value : S) → get_elem? m.views i ≡ some v → 0 < v.knows.parts → v.knows.holds ≡ true → v.vacant ≡ false
       → base_of value ≡ base → entries_of value ≡ v.knows.seen → Stands (leave m i v value)
-  leave_keeps m h i v value g some-part holds full same-base same = let w : View B E = knowing v (left v.knows) in let sum = total-set holding m.views i v w g in
+  leave_keeps m h i v value g some-part holds full same-base same = let w : View B E = knowing v (left v.knows) in let sum = total_set holding m.views i v w g in
       let is = holder_odd base_of entries_of session base m h i v g holds in let f = h.each i v g in let long = ap length is.2 in
       let last : m.word ≡ 2 * length h.history + 1 = is.0 in
       quiet base_of entries_of session base m h i v w (m.word - 1) (some (Some value)) g refl refl
@@ -134,7 +134,7 @@ module _ {S B E : Type 0} (base_of : S → B) (entries_of : S → List E) (sessi
       → base_of value ≡ base → entries_of value ≡ h.history ++ entry ∷ [] → (session entry ≡ length v.knows.seen) ⊎ Has v.knows.mine (session entry) → Stands (commit m i v value (h.history ++ entry ∷ []))
   commit_keeps m h i v value entry g some-part holds full same-base same own = let journal : List E = h.history ++ entry ∷ [] in let w : View B E = knowing v (committed v.knows journal) in let f = h.each i v g in
       let is = holder_odd base_of entries_of session base m h i v g holds in let word : m.word ≡ 2 * length h.history + 1 = is.0 in let whole : length v.knows.seen ≡ length h.history = ap length is.2 in let long = length-append h.history (entry ∷ []) in
-      let sum = total-set holding m.views i v w g in let opens : (session entry ≡ length h.history) ⊎ Has v.knows.mine (session entry) = ⊎_elim (λ (e : session entry ≡ length v.knows.seen). inl (e ∙ whole)) (λ t. inr t) own in
+      let sum = total_set holding m.views i v w g in let opens : (session entry ≡ length h.history) ⊎ Has v.knows.mine (session entry) = ⊎_elim (λ (e : session entry ≡ length v.knows.seen). inl (e ∙ whole)) (λ t. inr t) own in
       let at : (m.word + 1) % 2 ≡ 0 = omega arith in
       let alone : (j : ℕ) (u : View B E) → j ≢ i → get_elem? m.views j ≡ some u → u.knows.holds ≡ true → ⊥ = λ j u n d. no_other base_of entries_of session base m h i j v u n g holds d in
       let not : (u : View B E) → (u.knows.holds ≡ true → ⊥) → u.knows.holds ≡ false = λ u n. not_true u.knows.holds n in
@@ -156,5 +156,5 @@ module _ {S B E : Type 0} (base_of : S → B) (entries_of : S → List E) (sessi
             (λ other. let t = h.covered place (omega (arith, long, whole)) in dite (ℕ_discrete t.0 i)
             (λ is. (i, w, set_here m.views i w (within m.views i v g), snoc_old v.knows.mine (length v.knows.seen) place (subst (λ x. Has x.knows.mine place) (one_there m.views t.0 i t.1 v is t.2 g) t.3)))
             (λ n. (t.0, t.1, set_else m.views i t.0 w n ∙ t.2, t.3)));
-        parts = let all = h.parts in omega (arith, total-set parted m.views i v w g, all);
+        parts = let all = h.parts in omega (arith, total_set parted m.views i v w g, all);
       }

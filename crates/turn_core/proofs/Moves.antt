@@ -11,7 +11,7 @@ use Rattle.turn_core.specs.Places.{IsFront, Has}
 use Rattle.turn_core.specs.Knowledge.{spent, first_view, knowing, looked, took, committed, left, kept_view, new_view, joined_view}
 use Rattle.turn_core.specs.History.{Moment, History}
 use Rattle.turn_core.specs.Steps.{load, take, commit, slot_out}
-use Rattle.turn_core.specs.Plays.{Keeps, Sat, Looked, Tries, Committed, Left, SlotOut, SlotIn}
+use Rattle.turn_core.specs.Plays.{Keeps, Seated, Looked, Tries, Committed, Left, SlotOut, SlotIn}
 use Rattle.turn_core.specs.declared.view.View.{View}
 use Rattle.turn_core.proofs.Lists.{within}
 use Rattle.turn_core.proofs.Standing.{half_is, holder_odd, based, sound}
@@ -34,22 +34,22 @@ module _ {S B E : Type 0} (base_of : S → B) (entries_of : S → List E) (sessi
   opens = (1, some None, refl, refl, opening_stands base_of entries_of session base)
 
   -- a step's outcome, where the word is set to k
-  abbrev Sets : List ℕ → Slots → List (View B E) → ℕ → List (ℕ × std.Option S) → (ℕ → Sat base_of entries_of session → Type 0) → ℕ → Type 0
+  abbrev Sets : List ℕ → Slots → List (View B E) → ℕ → List (ℕ × std.Option S) → (ℕ → Seated base_of entries_of session → Type 0) → ℕ → Type 0
   Sets ws hs views id c then k = (w : View B E) × (a : Act (std.Option S)) × Valid hs c a × Rule (record { words = set ws 0 k; homes = homes_after hs c a; views = set views id w }) × then (get_or ws 0 0) (w, carried_after c a)
 
   -- it is enough to look at a table whose word and slot are in sight
   in_sight : (s : State (std.Option S) (View B E)) (word : ℕ) (slot : Option (std.Option S)) → s.words ≡ word ∷ [] → s.homes ≡ slot ∷ [] → (id : ℕ) (c : List (ℕ × std.Option S)) (f : ℕ → ℕ)
-      (then : ℕ → Sat base_of entries_of session → Type 0) → Sets (word ∷ []) (slot ∷ []) s.views id c then (f word) → Sets s.words s.homes s.views id c then (f (get_or s.words 0 0))
+      (then : ℕ → Seated base_of entries_of session → Type 0) → Sets (word ∷ []) (slot ∷ []) s.views id c then (f word) → Sets s.words s.homes s.views id c then (f (get_or s.words 0 0))
   in_sight s word slot e d id c f then t = subst₂ (λ ws hs. Sets ws hs s.views id c then (f (get_or ws 0 0))) (sym e) (sym d) t
 
   -- load
-  pub load_moves : (n id : ℕ) (m : Sat base_of entries_of session) → 0 < m.0.knows.parts → Allows Rule n id m 0 (λ k. k) (Looked base_of entries_of session (step n 0 0 0 none) m)
+  pub load_moves : (n id : ℕ) (m : Seated base_of entries_of session) → 0 < m.0.knows.parts → Allows Rule n id m 0 (λ k. k) (Looked base_of entries_of session (step n 0 0 0 none) m)
   load_moves n id m some-part s k wide g _ = let w = knowing m.0 (looked m.0.knows k.0) in let now = Now k.0 k.1 s.views in let next = load_keeps base_of entries_of session base now k.4 id m.0 g some-part in
       in_sight s k.0 k.1 k.2 k.3 id m.1 (λ x. x) (Looked base_of entries_of session (step n 0 0 0 none) m)
       (w, keeps, tt, (k.0, k.1, refl, refl, next), (refl, sound base_of entries_of session base (load now id m.0) next id w (set_here s.views id w (within s.views id m.0 g)) some-part))
 
   -- take, and failed take
-  pub tries_moves : (n id : ℕ) (m : Sat base_of entries_of session) (old new : ℕ) → 0 < m.0.knows.parts → m.0.knows.holds ≡ false → old % 2 ≡ 0 → new ≡ old + 1
+  pub tries_moves : (n id : ℕ) (m : Seated base_of entries_of session) (old new : ℕ) → 0 < m.0.knows.parts → m.0.knows.holds ≡ false → old % 2 ≡ 0 → new ≡ old + 1
       → Allows Rule n id m 0 (λ k. either (eqb k old) new k) (Tries base_of entries_of session (step n 0 old new none) m)
   tries_moves n id m old new some-part free even more s k wide g _ = let st = step n 0 old new none in let now = Now k.0 k.1 s.views in let h = k.4 in let f = h.each id m.0 g in let T = Tries base_of entries_of session st m in
       in_sight s k.0 k.1 k.2 k.3 id m.1 (λ x. either (eqb x old) new x) T (exchanged k.0 old new (Sets (k.0 ∷ []) (k.1 ∷ []) s.views id m.1 T)
@@ -88,10 +88,10 @@ module _ {S B E : Type 0} (base_of : S → B) (entries_of : S → List E) (sessi
       )))
 
   -- commit
-  pub commit_moves : (n id : ℕ) (m : Sat base_of entries_of session) (v : View B E) (value : S) (entry : E) (new : ℕ) → m ≡ (v, (0, Some value) ∷ []) → 0 < v.knows.parts → v.knows.holds ≡ true → v.vacant ≡ false
+  pub commit_moves : (n id : ℕ) (m : Seated base_of entries_of session) (v : View B E) (value : S) (entry : E) (new : ℕ) → m ≡ (v, (0, Some value) ∷ []) → 0 < v.knows.parts → v.knows.holds ≡ true → v.vacant ≡ false
       → v.knows.base ≡ Some (base_of value) → entries_of value ≡ v.knows.seen ++ entry ∷ [] → (session entry ≡ length v.knows.seen) ⊎ Has v.knows.mine (session entry) → new ≡ 2 * length (entries_of value)
       → Allows Rule n id m 0 (λ _. new) (λ _. Committed base_of entries_of session (step n 0 new 0 none) m new)
-  commit_moves n id m v value entry new e some-part holds full same-base same own number = subst (λ (x : Sat base_of entries_of session). Allows Rule n id x 0 (λ _. new) (λ _. Committed base_of entries_of session (step n 0 new 0 none) x new)) (sym e)
+  commit_moves n id m v value entry new e some-part holds full same-base same own number = subst (λ (x : Seated base_of entries_of session). Allows Rule n id x 0 (λ _. new) (λ _. Committed base_of entries_of session (step n 0 new 0 none) x new)) (sym e)
       (λ s k wide g _. let now = Now k.0 k.1 s.views in let h = k.4 in let is = holder_odd base_of entries_of session base now h id v g holds in
       let c : List (ℕ × std.Option S) = (0, Some value) ∷ [] in let T = λ (_ : ℕ). Committed base_of entries_of session (step n 0 new 0 none) (v, c) new in
       let w : View B E = knowing v (committed v.knows (entries_of value)) in
@@ -110,10 +110,10 @@ module _ {S B E : Type 0} (base_of : S → B) (entries_of : S → List E) (sessi
       ))
 
   -- leave
-  pub leave_moves : (n id : ℕ) (m : Sat base_of entries_of session) (v : View B E) (value : S) (new : ℕ) → m ≡ (v, (0, Some value) ∷ []) → 0 < v.knows.parts → v.knows.holds ≡ true → v.vacant ≡ false
+  pub leave_moves : (n id : ℕ) (m : Seated base_of entries_of session) (v : View B E) (value : S) (new : ℕ) → m ≡ (v, (0, Some value) ∷ []) → 0 < v.knows.parts → v.knows.holds ≡ true → v.vacant ≡ false
       → v.knows.base ≡ Some (base_of value) → entries_of value ≡ v.knows.seen → new ≡ 2 * length (entries_of value)
       → Allows Rule n id m 0 (λ _. new) (λ _. Left base_of entries_of session (step n 0 new 0 none) m new)
-  leave_moves n id m v value new e some-part holds full same-base same number = subst (λ (x : Sat base_of entries_of session). Allows Rule n id x 0 (λ _. new) (λ _. Left base_of entries_of session (step n 0 new 0 none) x new)) (sym e)
+  leave_moves n id m v value new e some-part holds full same-base same number = subst (λ (x : Seated base_of entries_of session). Allows Rule n id x 0 (λ _. new) (λ _. Left base_of entries_of session (step n 0 new 0 none) x new)) (sym e)
       (λ s k wide g _. let now = Now k.0 k.1 s.views in let h = k.4 in let is = holder_odd base_of entries_of session base now h id v g holds in
       let c : List (ℕ × std.Option S) = (0, Some value) ∷ [] in let T = λ (_ : ℕ). Left base_of entries_of session (step n 0 new 0 none) (v, c) new in
       let w : View B E = knowing v (left v.knows) in
@@ -130,14 +130,14 @@ module _ {S B E : Type 0} (base_of : S → B) (entries_of : S → List E) (sessi
       ))
 
   -- the empty slot goes out at the opening
-  pub slot_out_moves : (n id : ℕ) (m : Sat base_of entries_of session) → 0 < m.0.knows.parts → m.0.vacant ≡ true → Allows Rule n id m 0 (λ k. k) (SlotOut base_of entries_of session (step n 0 0 0 none) m)
+  pub slot_out_moves : (n id : ℕ) (m : Seated base_of entries_of session) → 0 < m.0.knows.parts → m.0.vacant ≡ true → Allows Rule n id m 0 (λ k. k) (SlotOut base_of entries_of session (step n 0 0 0 none) m)
   slot_out_moves n id m some-part vacant s k wide g _ = let w : View B E = record m.0 { knows = looked m.0.knows k.0; vacant = false } in let now = Now k.0 k.1 s.views in let next = slot_out_keeps base_of entries_of session base now k.4 id m.0 g some-part vacant in
       in_sight s k.0 k.1 k.2 k.3 id m.1 (λ x. x) (SlotOut base_of entries_of session (step n 0 0 0 none) m)
       (w, takes 0 None, ap some (k.4.vacant id m.0 g vacant).1, (k.0, none, refl, refl, next), (refl, (let is = holder_odd base_of entries_of session base now k.4 id m.0 g (k.4.vacant id m.0 g vacant).0 in omega (arith, is.0, ap length is.2)), sound base_of entries_of session base (slot_out now id m.0) next id w (set_here s.views id w (within s.views id m.0 g)) some-part))
 
   -- and comes home empty at the close
-  pub slot_in_moves : (n id : ℕ) (m : Sat base_of entries_of session) (v : View B E) → m ≡ (v, (0, None) ∷ []) → 0 < v.knows.parts → v.knows.holds ≡ true → Allows Rule n id m 0 (λ k. k) (SlotIn base_of entries_of session (step n 0 0 0 none) m)
-  slot_in_moves n id m v e some-part holds = subst (λ (x : Sat base_of entries_of session). Allows Rule n id x 0 (λ k. k) (SlotIn base_of entries_of session (step n 0 0 0 none) x)) (sym e)
+  pub slot_in_moves : (n id : ℕ) (m : Seated base_of entries_of session) (v : View B E) → m ≡ (v, (0, None) ∷ []) → 0 < v.knows.parts → v.knows.holds ≡ true → Allows Rule n id m 0 (λ k. k) (SlotIn base_of entries_of session (step n 0 0 0 none) m)
+  slot_in_moves n id m v e some-part holds = subst (λ (x : Seated base_of entries_of session). Allows Rule n id x 0 (λ k. k) (SlotIn base_of entries_of session (step n 0 0 0 none) x)) (sym e)
       (λ s k wide g _. let w : View B E = record v { knows = looked v.knows k.0; vacant = true } in let now = Now k.0 k.1 s.views in
       in_sight s k.0 k.1 k.2 k.3 id ((0, None) ∷ []) (λ x. x) (SlotIn base_of entries_of session (step n 0 0 0 none) (v, (0, None) ∷ []))
       (w, gives, tt, (k.0, some None, refl, refl, slot_in_keeps base_of entries_of session base now k.4 id v g some-part holds), refl))

@@ -12,7 +12,7 @@ use Rattle.turn_core.specs.History.{Moment, History, Fits, HoldersOf}
 use Rattle.turn_core.specs.Steps.{split, join}
 use Rattle.turn_core.specs.declared.view.View.{View}
 use Rattle.turn_core.proofs.Places.{front_length, front_nil, longer_left, longer_right, longer_front, shorter_front, has_merged, merged_left, merged_right, ascending_merged}
-use Rattle.turn_core.proofs.Lists.{within, total-append, total-set, each_set, pairs_set}
+use Rattle.turn_core.proofs.Lists.{within, total_and, total_set, each_set, pairs_set}
 use Rattle.turn_core.proofs.Standing.{holding, parted, holding_no, one_there, based}
 
 module _ {S B E : Type 0} (base_of : S → B) (entries_of : S → List E) (session : E → ℕ) (base : B) where
@@ -26,7 +26,7 @@ module _ {S B E : Type 0} (base_of : S → B) (entries_of : S → List E) (sessi
   pub split_keeps : (m : Moment S B E) (h : Stands m) (i : ℕ) (v : View B E) → get_elem? m.views i ≡ some v → 0 < v.knows.parts → v.knows.holds ≡ false → v.knows.parts % 2 ≡ 0 → Stands (split m i v)
   split_keeps m h i v g some-part free halves = let w : View B E = knowing v (halved v.knows) in let r : View B E = plain (split_off v.knows) in let f = h.each i v g in let l = set m.views i w in
       let b = based base_of entries_of session base h.history v f some-part in let half : 0 < v.knows.parts / 2 = omega arith in let none_left : v.knows.mine ≡ v.knows.mine = refl in
-      let holders : HoldersOf (l ++ r ∷ []) ≡ HoldersOf m.views = omega (arith, total-append holding l (r ∷ []), total-set holding m.views i v w g, holding_no v free) in
+      let holders : HoldersOf (l ++ r ∷ []) ≡ HoldersOf m.views = omega (arith, total_and holding l r, total_set holding m.views i v w g, holding_no v free) in
       record {
         history = h.history;
         even = λ e. let t = h.even e in (t.0, holders ∙ t.1, t.2);
@@ -63,7 +63,7 @@ module _ {S B E : Type 0} (base_of : S → B) (entries_of : S → List E) (sessi
         covered = λ place near. let t = h.covered place near in dite (ℕ_discrete t.0 i)
             (λ is. (i, w, at_longer l (r ∷ []) i w (set_here m.views i w (within m.views i v g)), subst (λ x. Has x.knows.mine place) (one_there m.views t.0 i t.1 v is t.2 g) t.3))
             (λ n. (t.0, t.1, at_longer l (r ∷ []) t.0 t.1 (set_else m.views i t.0 w n ∙ t.2), t.3));
-        parts = let all = h.parts in omega (arith, total-append parted l (r ∷ []), total-set parted m.views i v w g, all);
+        parts = let all = h.parts in omega (arith, total_and parted l r, total_set parted m.views i v w g, all);
       }
 
   -- join
@@ -73,7 +73,7 @@ module _ {S B E : Type 0} (base_of : S → B) (entries_of : S → List E) (sessi
       let b = based base_of entries_of session base h.history v f some-part in let there : get_elem? l j ≡ some u = set_else m.views i j w n ∙ d in
       let a : Apart v.knows.mine u.knows.mine = h.apart i j v u (λ e. n (sym e)) g d in
       let left = longer_left v.knows.seen u.knows.seen h.history f.front f'.front in let right = longer_right v.knows.seen u.knows.seen h.history f.front f'.front in
-      let holders : HoldersOf (set l j spent) ≡ HoldersOf m.views = omega (arith, total-set holding m.views i v w g, total-set holding l j u spent there, holding_no v free, holding_no u free') in
+      let holders : HoldersOf (set l j spent) ≡ HoldersOf m.views = omega (arith, total_set holding m.views i v w g, total_set holding l j u spent there, holding_no v free, holding_no u free') in
       let mine : (k : ℕ) (x : View B E) → k ≢ j → get_elem? l k ≡ some x → (k ≡ i) × (w ≡ x) ⊎ (k ≢ i) × (get_elem? m.views k ≡ some x) = λ k x o e. at_set m.views i k w x e in
       record {
         history = h.history;
@@ -121,5 +121,5 @@ module _ {S B E : Type 0} (base_of : S → B) (entries_of : S → List E) (sessi
             (λ is. (i, w, here, merged_left v.knows.mine u.knows.mine place (subst (λ x. Has x.knows.mine place) (one_there m.views t.0 i t.1 v is t.2 g) t.3)))
             (λ o. dite (ℕ_discrete t.0 j) (λ is. (i, w, here, merged_right v.knows.mine u.knows.mine place (subst (λ x. Has x.knows.mine place) (one_there m.views t.0 j t.1 u is t.2 d) t.3)))
             (λ p. (t.0, t.1, set_else l j t.0 spent p ∙ (set_else m.views i t.0 w o ∙ t.2), t.3)));
-        parts = let all = h.parts in omega (arith, total-set parted m.views i v w g, total-set parted l j u spent there, all);
+        parts = let all = h.parts in omega (arith, total_set parted m.views i v w g, total_set parted l j u spent there, all);
       }

@@ -12,7 +12,7 @@ use Rattle.turn_core.specs.History.{Moment, History, Fits, AtHome, HoldersOf}
 use Rattle.turn_core.specs.Plays.{Told}
 use Rattle.turn_core.specs.declared.view.View.{View}
 use Rattle.turn_core.proofs.Places.{get_longer, front_length}
-use Rattle.turn_core.proofs.Lists.{within, total-set, term_le, terms_le, each_set, pairs_set}
+use Rattle.turn_core.proofs.Lists.{within, total_set, one_of, two_of, each_set, pairs_set}
 
 module _ {B E : Type 0} where
   abbrev pub holding : View B E → ℕ
@@ -46,12 +46,12 @@ module _ {S B E : Type 0} (base_of : S → B) (entries_of : S → List E) (sessi
   -- while a view holds the turn, the word is odd, and it has seen the whole history
   pub holder_odd : (m : Moment S B E) (h : Stands m) (i : ℕ) (v : View B E) → get_elem? m.views i ≡ some v → v.knows.holds ≡ true
       → (m.word ≡ 2 * length h.history + 1) × (HoldersOf m.views ≡ 1) × (v.knows.seen ≡ h.history) × (m.word % 2 ≡ 1)
-  holder_odd m h i v g holds = parity m.word (λ e. let t : HoldersOf m.views ≡ 0 = (h.even e).1 in let one = term_le holding m.views i v g in absurd (omega (arith, one, holding_yes v holds)))
+  holder_odd m h i v g holds = parity m.word (λ e. let t : HoldersOf m.views ≡ 0 = (h.even e).1 in let one = one_of holding m.views i v g in absurd (omega (arith, one, holding_yes v holds)))
       (λ e. let t = h.odd e in (t.0, t.1, (h.each i v g).holder holds, e))
 
   -- no other view holds it then
   pub no_other : (m : Moment S B E) (h : Stands m) (i j : ℕ) (v u : View B E) → j ≢ i → get_elem? m.views i ≡ some v → v.knows.holds ≡ true → get_elem? m.views j ≡ some u → u.knows.holds ≡ true → ⊥
-  no_other m h i j v u n g holds d other = let one : HoldersOf m.views ≡ 1 = (holder_odd m h i v g holds).1 in let two = terms_le holding m.views i j v u n g d in
+  no_other m h i j v u n g holds d other = let one : HoldersOf m.views ≡ 1 = (holder_odd m h i v g holds).1 in let two = two_of holding m.views i j v u n g d in
       omega (arith, one, two, holding_yes v holds, holding_yes u other)
 
   -- the entries of what a view has seen are those of the history
@@ -63,13 +63,13 @@ module _ {S B E : Type 0} (base_of : S → B) (entries_of : S → List E) (sessi
   sound m h i v g some-part = let f = h.each i v g in (
     record {
       part = some-part;
-      at_most = let one = term_le parted m.views i v g in let sum = h.parts in omega (arith, one, sum);
+      at_most = let one = one_of parted m.views i v g in let sum = h.parts in omega (arith, one, sum);
       ascending = f.ascending;
       within = f.within;
       sessions = λ place entry e. f.sessions place entry (seen_is m h i v g place entry e);
       whole = λ all place near. let long = front_length v.knows.seen h.history f.front in let t = h.covered place (omega arith) in
           dite (ℕ_discrete t.0 i) (λ is. subst (λ x. Has x.knows.mine place) (one_there m.views t.0 i t.1 v is t.2 g) t.3)
-          (λ other. let two = terms_le parted m.views i t.0 v t.1 other g t.2 in let sum = h.parts in ⊎_elim (λ is. absurd (subst (λ x. Has x.knows.mine place) is t.3)) (λ (lives : _ × (0 < t.1.knows.parts)). let b : 0 < t.1.knows.parts = lives.1 in absurd (omega (arith, two, sum, all))) (h.each t.0 t.1 t.2).lives);
+          (λ other. let two = two_of parted m.views i t.0 v t.1 other g t.2 in let sum = h.parts in ⊎_elim (λ is. absurd (subst (λ x. Has x.knows.mine place) is t.3)) (λ (lives : _ × (0 < t.1.knows.parts)). let b : 0 < t.1.knows.parts = lives.1 in absurd (omega (arith, two, sum, all))) (h.each t.0 t.1 t.2).lives);
     },
     f.shorter,
   )
@@ -98,7 +98,7 @@ module _ {S B E : Type 0} (base_of : S → B) (entries_of : S → List E) (sessi
     covered = λ place near. let t = h.covered place near in
         dite (ℕ_discrete t.0 i) (λ is. (i, w, set_here m.views i w (within m.views i v g), subst (λ l. Has l place) (sym mine) (subst (λ x. Has x.knows.mine place) (one_there m.views t.0 i t.1 v is t.2 g) t.3)))
         (λ n. (t.0, t.1, set_else m.views i t.0 w n ∙ t.2, t.3));
-    parts = let sum = h.parts in omega (arith, total-set parted m.views i v w g, sum, parts);
+    parts = let sum = h.parts in omega (arith, total_set parted m.views i v w g, sum, parts);
   }
 
   -- a view that has found one more word

@@ -14,4 +14,4 @@ pub use laws::history_stands;
 pub use pass::Pass;
 pub use tried::Tried;
 pub use turn::Turn;
-pub use view::{Knowledge, View};
+pub use view::Knowledge;

@@ -1,5 +1,5 @@
-//! What a pass knows of its turn, and the view of a seat of the table. No value of either is ever made: they stand in
-//! contracts and in the rule alone.
+//! What a pass knows of its turn, and the view of its seat of the table. Both stand in contracts and in the rule alone;
+//! a program makes no value of them.
 use std::collections::LinkedList;
 
 /// What a pass knows.
