@@ -1,5 +1,5 @@
 //! A journal of numbered entries, which is taken in turn.
-ghost use Rattle.std.specs.Prelude.{◌≡◌, ◌<◌, ◌^◌, ◌++◌, ◌∷◌, [], vec_len, MatchBool, length};
+ghost use Rattle.std.specs.Prelude.{◌≡◌, ◌<◌, ◌^◌, ◌++◌, ◌∷◌, [], MatchBool, length};
 
 use std::alloc::Global;
 use turn_core::Journaled;

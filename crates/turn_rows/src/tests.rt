@@ -1,4 +1,4 @@
-use super::{Entry, Journal, run_four, run_two, start, take};
+use super::{Entry, Journal, run_four, run_one, run_two, start, take};
 use std::test::Fail;
 use turn_core::{Tried, Turn};
 
@@ -45,13 +45,29 @@ fn one_pass_takes_and_the_other_is_busy(rt: HostRuntime) -> Result<(), Fail> {
         })
     );
     turn.commit(&mut first, journal);
-    let journal = take(&rt, &turn, &mut second);
+    let Tried::Held(journal) = turn.try_take(&mut second) else {
+        return Err(Fail::from("free again"));
+    };
     assert_eq!(rt; journal.entries.len(), 1);
+    let Tried::Busy(word) = turn.try_take(&mut first) else {
+        return Err(Fail::from("held again"));
+    };
+    // The word was 2 after the commit, so it is 3 now.
+    assert_eq!(rt; word, 3);
     turn.leave(&mut second, journal);
     turn.join(&mut first, second);
     let journal = take(&rt, &turn, &mut first);
     assert_eq!(rt; journal.entries.len(), 1);
     turn.close(first);
+    Ok(())
+}
+
+#[test]
+fn one_thread_leaves_its_session(rt: HostRuntime) -> Result<(), Fail> {
+    let journal = run_one(&rt, rt.alloc(), 100).ok_or("all entries were made")?;
+    assert_eq!(rt; journal.entries.len(), 100);
+    assert_eq!(rt; openings(&journal), 1);
+    assert!(rt; in_order(&journal.entries));
     Ok(())
 }
 

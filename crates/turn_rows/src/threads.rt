@@ -1,11 +1,9 @@
 //! Two and four threads, each with a pass of its own.
-ghost use Rattle.std.specs.Prelude.{◌≡◌, ◌%◌, false, IfSome};
-ghost use Rattle.turn_core.specs.Knowledge.{all_parts};
-ghost use Rattle.turn_rows.specs.Work.{Keeps, Joins, Holds, HasAll};
+ghost use Rattle.std.specs.Prelude.{◌≡◌, ◌%◌, false};
+ghost use Rattle.turn_rows.specs.Work.{Keeps, Joins};
 
 use crate::journal::Journal;
-use crate::worker::{take, work};
-use std::alloc::Global;
+use crate::worker::work;
 use std::sync::Wait;
 use std::thread;
 use std::thread::Threads;

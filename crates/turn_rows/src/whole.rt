@@ -1,5 +1,5 @@
 //! Whole runs: a turn is opened, threads work, and the turn is closed.
-ghost use Rattle.std.specs.Prelude.{◌≡◌, false, [], IfSome};
+ghost use Rattle.std.specs.Prelude.{◌≡◌, false, IfSome};
 ghost use Rattle.turn_core.specs.Knowledge.{all_parts};
 ghost use Rattle.turn_rows.specs.Work.{Holds, HasAll, IsFresh};
 
@@ -37,13 +37,22 @@ pub fn take_all<R: Wait>(rt: &R, turn: &Turn<Journal>, pass: &mut Pass<Journal>)
     journal
 }
 
+/// Takes the turn with a pass that has all parts, and closes it.
+fn finish<R: Wait>(rt: &R, turn: Turn<Journal>, mut pass: Pass<Journal>) -> Journal
+    requires turn { pass.turn ≡ turn.turn }
+    requires free { pass.knows.holds ≡ false }
+    requires parts { pass.knows.parts ≡ all_parts }
+{
+    let journal = take_all(rt, &turn, &mut pass);
+    turn.close(pass);
+    journal
+}
+
 /// One thread makes `commits` entries of one session. Answers the journal if all were made.
 pub fn run_one<R: Wait>(rt: &R, alloc: Global, commits: u64) -> Option<Journal> {
     let (turn, pass) = start(alloc, 1)?;
     let worked = alone(rt, &turn, pass, commits);
-    let mut pass = worked.pass;
-    let journal = take_all(rt, &turn, &mut pass);
-    turn.close(pass);
+    let journal = finish(rt, turn, worked.pass);
     worked.all.then_some(journal)
 }
 
@@ -51,9 +60,7 @@ pub fn run_one<R: Wait>(rt: &R, alloc: Global, commits: u64) -> Option<Journal> 
 pub fn run_two<R: Threads + Wait + Sync>(rt: &R, alloc: Global, commits: u64) -> Option<Journal> {
     let (turn, pass) = start(alloc, 2)?;
     let worked = pair(rt, &turn, pass, commits);
-    let mut pass = worked.pass;
-    let journal = take_all(rt, &turn, &mut pass);
-    turn.close(pass);
+    let journal = finish(rt, turn, worked.pass);
     worked.all.then_some(journal)
 }
 
@@ -61,8 +68,6 @@ pub fn run_two<R: Threads + Wait + Sync>(rt: &R, alloc: Global, commits: u64) ->
 pub fn run_four<R: Threads + Wait + Sync>(rt: &R, alloc: Global, commits: u64) -> Option<Journal> {
     let (turn, pass) = start(alloc, 4)?;
     let worked = four(rt, &turn, pass, commits);
-    let mut pass = worked.pass;
-    let journal = take_all(rt, &turn, &mut pass);
-    turn.close(pass);
+    let journal = finish(rt, turn, worked.pass);
     worked.all.then_some(journal)
 }
