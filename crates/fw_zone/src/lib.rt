@@ -1,0 +1,9 @@
+//! The settings of zones one by one, and the interfaces and sources that belong to them.
+#![tactic(auto)]
+
+mod lists;
+mod same;
+mod settings;
+
+pub use fw_model::Setting;
+pub use settings::{AddError, NotEnabled, add, has, remove};
