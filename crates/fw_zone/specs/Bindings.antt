@@ -31,6 +31,10 @@ module _ {A : Type 0} (of : Zone → List A) (with : Zone → List A → Zone) w
   abbrev pub IsListedElsewhere : List Zone → ℕ → A → Type 0
   IsListedElsewhere zones place entry = (other : ℕ) × (other ≢ place) × IsListedAt zones other entry
 
+  -- another zone lists it, and this one doesn't
+  abbrev pub IsInConflict : List Zone → ℕ → A → Type 0
+  IsInConflict zones place entry = (¬ (IsListedAt zones place entry)) × IsListedElsewhere zones place entry
+
   -- some zone lists it
   abbrev pub IsListed : List Zone → A → Type 0
   IsListed zones entry = (place : ℕ) × IsListedAt zones place entry
