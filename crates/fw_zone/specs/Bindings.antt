@@ -58,8 +58,14 @@ module _ {A : Type 0} (of : Zone → List A) (with : Zone → List A → Zone) w
     pub removed : IsRemoved entry (of zone) left
     pub is : new ≡ slice_set old place (with zone left)
 
-  -- the zone at a place got the entry, and where another zone listed it, it went from there
+  -- the zone at a place got the entry, and it went from another
+  pub record IsMovedFrom (old : List Zone) (from place : ℕ) (entry : A) (new : List Zone) : Type 0 where
+    pub between : List Zone
+    pub bound : IsBound old place entry between
+    pub unbound : IsUnbound between from entry new
+
+  -- The zone at a place got the entry, which no zone listed; or the first that listed it lost it.
   abbrev pub IsMoved : List Zone → ℕ → A → List Zone → Type 0
   IsMoved old place entry new =
       ((¬ (IsListed old entry)) × IsBound old place entry new)
-      ⊎ ((from : ℕ) × (between : List Zone) × IsFirstListed old from entry × IsBound old place entry between × IsUnbound between from entry new)
+      ⊎ ((from : ℕ) × IsFirstListed old from entry × IsMovedFrom old from place entry new)

@@ -1,6 +1,8 @@
 //! Bindings of interfaces and sources to zones.
 ghost use Rattle.std.specs.Prelude.{◌≡◌, ◌≢◌, ℕ, ◌<◌, ◌↔◌, length, IfSome, IsErr, IsOk, IsSome, IsTrue, OnOk, OnErr, Err, slice_get, Some};
-ghost use Rattle.fw_zone.specs.Bindings.{IsBound, IsFirstListed, IsInConflict, IsListed, IsListedAt, IsMoved, IsUnbound};
+ghost use Rattle.fw_zone.specs.Bindings.{IsBound, IsFirstListed, IsInConflict, IsListed, IsListedAt, IsMoved, IsMovedFrom, IsUnbound};
+ghost use Rattle.fw_zone.specs.Lists.{IsFirstPlace};
+ghost use Rattle.fw_model.specs.declared.zone.Zone.{Zone};
 
 use super::entries::Entry;
 use super::lists::{contains, place_of};
@@ -50,7 +52,7 @@ fn lists<T: Entry>(zones: &[Zone], place: usize, entry: &T) -> bool
 }
 
 /// The first zone that lists an entry.
-fn zone_of<T: Entry>(zones: &[Zone], entry: &T) -> Option<usize>
+pub fn zone_of<T: Entry>(zones: &[Zone], entry: &T) -> Option<usize>
     ensures first { IfSome result (λ place. IsFirstListed T.of T.with zones.now place entry.now) }
     ensures listed { IsSome result ↔ IsListed T.of T.with zones.now entry.now }
 {
@@ -143,5 +145,62 @@ pub fn unbind<T: Entry>(zones: &mut Seq<Zone>, place: usize, entry: &T) -> Resul
         }
         Standing::Elsewhere => Err(BindError::ZoneConflict),
         Standing::Nowhere => Err(BindError::Unknown),
+    }
+}
+
+/// Where an entry stands in the list of a zone that lists it.
+fn place_in<T: Entry>(zones: &[Zone], place: usize, entry: &T) -> usize
+    requires { IsListedAt T.of T.with zones.now place entry.now }
+    ensures { (zone : Zone) → slice_get zones.now place ≡ Some zone
+        → IsFirstPlace (T.of zone) result entry.now }
+{
+    match place_of(T::entries(&zones[place]), entry) {
+        Some(at) => at,
+        None => unreachable!(),
+    }
+}
+
+/// Binds an entry to the zone at a place, and takes it from another that lists it.
+fn move_from<T: Entry + Drop>(
+    zones: &mut Seq<Zone>,
+    from: usize,
+    place: usize,
+    entry: T,
+) -> Result<(), Memory>
+    requires here { place < length zones.old }
+    requires there { IsListedAt T.of T.with zones.old from entry }
+    requires other { from ≢ place }
+    ensures moved { OnOk result (IsMovedFrom T.of T.with zones.old from place entry zones.new) }
+    ensures err { OnErr result (zones.new ≡ zones.old) }
+{
+    let at = place_in(zones.as_slice(), from, &entry);
+    append_at(zones, place, entry)?;
+    T::take_out(zones.get_mut(from), at);
+    Ok(())
+}
+
+/// Binds an entry to the zone at a place, and where another zone lists it, takes it from there.
+pub fn move_to<T: Entry + Drop>(
+    zones: &mut Seq<Zone>,
+    place: usize,
+    entry: T,
+) -> Result<(), BindError>
+    requires { place < length zones.old }
+    ensures moved { OnOk result (IsMoved T.of T.with zones.old place entry zones.new) }
+    ensures already { (result ≡ Err BindError.ZoneAlreadySet) ↔ IsListedAt T.of T.with zones.old place entry }
+    ensures no_conflict { result ≢ Err BindError.ZoneConflict }
+    ensures known { result ≢ Err BindError.Unknown }
+    ensures err { OnErr result (zones.new ≡ zones.old) }
+{
+    if lists(zones.as_slice(), place, &entry) {
+        return Err(BindError::ZoneAlreadySet);
+    }
+    let moved = match zone_of(zones.as_slice(), &entry) {
+        Some(from) => move_from(zones, from, place, entry),
+        None => append_at(zones, place, entry),
+    };
+    match moved {
+        Ok(()) => Ok(()),
+        Err(_) => Err(BindError::Memory),
     }
 }
