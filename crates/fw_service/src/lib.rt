@@ -1,0 +1,6 @@
+//! What the firewall has from the start.
+#![tactic(auto)]
+
+mod zones;
+
+pub use zones::built_in_zones;
