@@ -1,4 +1,5 @@
 pub mod Adapters
 pub mod Causes
+pub mod Lending
 pub mod Streams
 pub mod Supply
