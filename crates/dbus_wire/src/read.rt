@@ -9,7 +9,7 @@ ghost use Rattle.dbus_wire.specs.declared.value.Value.{Value as Spelt};
 ghost use Rattle.dbus_wire.specs.Fits.{Spells, SpeltThere};
 ghost use Rattle.dbus_wire.specs.Values.{value_of};
 
-use crate::containers::value_at;
+use crate::containers::{Context, value_at};
 use crate::value::{Endian, Value};
 use dbus_signature::{Cursor, Signature, WireError};
 use std::alloc::Global;
@@ -32,7 +32,12 @@ fn value_of(
     let kind = signature.kind(alloc)?;
     let (_, rest) = bytes.split_at(offset);
     let from = Cursor { at: offset, rest };
-    let (value, after) = value_at(alloc, endian, MAX_OPEN, &kind, from)?;
+    let context = Context {
+        alloc,
+        endian,
+        room: MAX_OPEN,
+    };
+    let (value, after) = value_at(context, &kind, from)?;
     Ok((value, after.at))
 }
 

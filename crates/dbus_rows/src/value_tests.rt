@@ -1,7 +1,7 @@
-use super::*;
+use dbus_wire::{Endian, WireError, read_signature, read_value};
 use fw_base::TryCopy;
 use std::alloc::Global;
-use std::test::*;
+use std::test::Fail;
 
 /// What stands at an offset as a type: the offset behind it, or the place of the fault.
 fn read(
@@ -17,7 +17,9 @@ fn read(
     }
     match read_value(alloc, &signature, bytes, offset, endian) {
         Ok((value, end)) => {
-            let _ = value.copy(alloc)?;
+            if !value.copy(alloc)?.is_same(&value) {
+                return Err(Fail::from("the copy is another value"));
+            }
             Ok(Ok(end))
         }
         Err(WireError::Bad(place)) => Ok(Err(place)),
@@ -63,9 +65,21 @@ fn values_are_read_or_at_fault(rt: HostRuntime) -> Result<(), Fail> {
 }
 
 #[test]
-fn a_number_is_written_at_its_alignment(rt: HostRuntime) -> Result<(), Fail> {
-    let mut out = Vec::new(rt.alloc());
-    write_value(&Value::Byte(7), Endian::Big, &mut out)?;
-    assert_eq!(rt; out.as_slice(), [7].as_slice());
+fn a_value_is_shown(rt: HostRuntime) -> Result<(), Fail> {
+    let alloc = rt.alloc();
+    let signature = read_signature(alloc, b"(a{sv}n)")
+        .ok()
+        .ok_or("no signature")?;
+    let bytes = b"\x10\0\0\0\0\0\0\0\x04\0\0\0key0\0\x01b\0\x01\0\0\0\xfe\xff";
+    if !signature.is_one_type(alloc)? {
+        return Err(Fail::from("no signature of one type"));
+    }
+    let (value, end) = read_value(alloc, &signature, bytes, 0, Endian::Little)?;
+    assert_eq!(rt; end, bytes.len());
+    let shown = format!(in alloc; "{value:?}")?;
+    assert_eq!(rt;
+        shown.as_str(),
+        "Struct [Array(a{sv}) [Pair Str(key0): Variant(b) Bool(true);];I16(-2);]"
+    );
     Ok(())
 }

@@ -1,7 +1,6 @@
-use super::*;
-use fw_base::TryCopy;
+use dbus_signature::{WireError, read_signature};
 use std::alloc::Global;
-use std::test::*;
+use std::test::Fail;
 
 /// What a text is read as: nothing at fault, or the place of the fault.
 fn fault(alloc: Global, text: &[u8]) -> Result<Option<usize>, Fail> {
@@ -14,9 +13,10 @@ fn fault(alloc: Global, text: &[u8]) -> Result<Option<usize>, Fail> {
 
 #[test]
 fn texts_are_signatures_or_at_fault(rt: HostRuntime) -> Result<(), Fail> {
-    let deep = [b'a'; 33];
+    let deepest = b"aaaaaaaaaaaaaaaaaaaaaaaaaaaaaaaay";
+    let deep = b"aaaaaaaaaaaaaaaaaaaaaaaaaaaaaaaaay";
     let long = [b'y'; 256];
-    let table: [(&[u8], Option<usize>); 12] = [
+    let table: [(&[u8], Option<usize>); 13] = [
         (b"", None),
         (b"ybnqiuxtdsogvh", None),
         (b"a{sa(iv)}(y(xd))", None),
@@ -27,7 +27,8 @@ fn texts_are_signatures_or_at_fault(rt: HostRuntime) -> Result<(), Fail> {
         (b"{sv}", Some(0)),
         (b"a{vs}", Some(2)),
         (b"a{sv)", Some(4)),
-        (&deep, Some(32)),
+        (deepest, None),
+        (deep, Some(32)),
         (&long, Some(255)),
     ];
     for (text, want) in &table {

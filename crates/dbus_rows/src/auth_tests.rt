@@ -1,4 +1,4 @@
-use super::{Auth, AuthAnswer, AuthEnd};
+use dbus_auth::{Auth, AuthAnswer, AuthEnd, guid};
 use std::test::Fail;
 
 #[test]
@@ -26,4 +26,12 @@ fn lines_get_their_answers(rt: HostRuntime) -> Result<(), Fail> {
     assert_eq!(rt; auth.line(b"AUTH"), rejections);
     assert_eq!(rt; auth.line(b"AUTH EXTERNAL"), rejections);
     Ok(())
+}
+
+#[test]
+fn the_guid_is_the_servers(rt: HostRuntime) {
+    assert_eq!(rt;
+        guid().as_bytes(),
+        b"46495245574c4c440000000000000001".as_slice()
+    );
 }
