@@ -1,17 +1,16 @@
 -- A text that is no signature, or no type, is at fault exactly where reading stops.
-use Rattle.std.proofs.Common.{◌≡◌, ℕ, zero, suc, ◌+◌, ◌<◌, ◌≤◌, Bool, true, false, ltb, eqb, ◌↔◌, List, [], ◌∷◌, ◌++◌, length, take, drop, Result, Ok, Err, refl, sym, ap, subst, ◌∙◌, append_assoc, arith, inl, inr, ◌⊎◌, add-one}
-use Rattle.std.specs.List.{list_all}
+use Rattle.std.proofs.Common.{◌≡◌, ℕ, zero, suc, ◌+◌, ◌<◌, ◌≤◌, true, false, ltb, ◌↔◌, List, [], ◌∷◌, ◌++◌, length, take, drop, Result, Ok, Err, refl, sym, ap, subst, ◌∙◌, append_assoc, arith, inl, inr, ◌⊎◌, add-one}
 use Rattle.std.proofs.lemmas.Bool.{and_from, cases_lt, ltb-true, ltb-false, lt-ltb, le-ltb}
 use Rattle.std.proofs.lemmas.List.{append-nil, length-append, length-take, take-append-drop, take-take, take_at}
 use Rattle.std.proofs.Math.Seq.{take-append-add}
 use Rattle.dbus_signature.specs.declared.kind.Kind.{Kind}
-use Rattle.dbus_signature.specs.Types.{codes, all_codes, nests}
+use Rattle.dbus_signature.specs.Types.{codes, nests}
 use Rattle.dbus_signature.specs.Reading.{◌>>=◌}
 use Rattle.dbus_signature.specs.Signatures.{kind_at, kinds_at, kinds_of, all_kinds, signature_of, max_nesting, max_length}
 use Rattle.dbus_signature.specs.FirstFault.{AreTypes, IsType, BeginsWord, FirstFault, SignatureFault}
-use Rattle.dbus_signature.proofs.Sound.{bind_ok, ok_is, not_ok, chosen, Takes, kind_takes}
+use Rattle.dbus_signature.proofs.Sound.{ok_is, chosen, Takes, kind_takes}
 use Rattle.dbus_signature.proofs.Complete.{starts, count_le, kind_again}
-use Rattle.dbus_signature.proofs.Whole.{AllNest, kinds_take, kinds_again, kinds_step}
+use Rattle.dbus_signature.proofs.Whole.{kinds_take, kinds_again, kinds_step}
 use Rattle.dbus_signature.proofs.Stops.{bind_err, err_is, not_err, some_more, kind_stops}
 
 -- ---- types in a row

@@ -1,8 +1,8 @@
 -- Where no type goes on: what stands before the place of a fault begins one, and nothing that goes on with one byte more
 -- is read.
-use Rattle.std.proofs.Common.{◌≡◌, ℕ, zero, suc, ◌+◌, ◌-◌, ◌<◌, ◌≤◌, Bool, true, false, cond, eqb, List, [], ◌∷◌, ◌++◌, length, take, Option, Some, None, Result, Ok, Err, refl, sym, ap, subst, ◌∙◌, append_assoc, arith, inl, inr, ◌⊎◌}
+use Rattle.std.proofs.Common.{◌≡◌, ℕ, zero, suc, ◌+◌, ◌-◌, ◌<◌, ◌≤◌, true, false, cond, eqb, List, [], ◌∷◌, ◌++◌, length, take, Option, Some, None, Result, Ok, Err, refl, sym, ap, subst, ◌∙◌, append_assoc, arith, inl, inr, ◌⊎◌}
 use Rattle.std.specs.List.{list_all}
-use Rattle.std.proofs.lemmas.Bool.{eqb-true, ne_eqb, and_from}
+use Rattle.std.proofs.lemmas.Bool.{eqb-true, and_from}
 use Rattle.std.proofs.lemmas.List.{append-nil, length-append}
 use Rattle.std.proofs.Math.Seq.{take-append-add}
 use Rattle.dbus_signature.specs.declared.kind.Basic.{Basic}
@@ -13,8 +13,8 @@ use Rattle.dbus_signature.specs.Types.{code, codes, all_codes, nests}
 use Rattle.dbus_signature.specs.Reading.{Read, Reader, ◌>>=◌}
 use Rattle.dbus_signature.specs.Signatures.{basic_of, basic_found, basic_at, brace_at, dict_at, plain_array_at, array_at, closing, unless_closed, members_at, struct_at, letter_at, kind_by, kind_at}
 use Rattle.dbus_signature.proofs.KindLaws.{codes_plain, codes_array, codes_dict, codes_struct, kind_at_opens}
-use Rattle.dbus_signature.proofs.Sound.{bind_ok, ok_is, not_ok, chosen, Takes, basic_takes, basic_again, nests_array, nests_dict, nests_plain, nests_struct, kind_takes}
-use Rattle.dbus_signature.proofs.Complete.{starts, Complete, kind_again}
+use Rattle.dbus_signature.proofs.Sound.{ok_is, not_ok, chosen, Takes, basic_takes, basic_again, nests_array, nests_dict, nests_plain, nests_struct, kind_takes}
+use Rattle.dbus_signature.proofs.Complete.{starts, kind_again}
 
 -- ---- tools
 
