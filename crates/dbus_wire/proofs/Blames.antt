@@ -1,18 +1,18 @@
 -- A reader fails at a place exactly where its bytes are at fault there.
-use Rattle.std.proofs.Common.{◌≡◌, ℕ, zero, suc, ◌+◌, ◌^◌, ◌<◌, ◌≤◌, Bool, true, false, cond, ltb, eqb, List, [], ◌∷◌, ◌++◌, length, take, drop, Ok, Err, refl, sym, ap, subst, ◌∙◌, append_assoc, arith, inl, inr, ◌⊎◌}
+use Rattle.std.proofs.Common.{◌≡◌, ℕ, zero, suc, ◌+◌, ◌^◌, ◌<◌, ◌≤◌, Bool, true, false, cond, ltb, eqb, List, [], ◌∷◌, ◌++◌, length, take, drop, Ok, Err, refl, sym, ap, subst, ◌∙◌, arith, inl, inr}
 use Rattle.std.specs.Prelude.{replicate}
-use Rattle.std.specs.Int.{Width, w16, w32, w64, byte_len}
+use Rattle.std.specs.Int.{Width, w32, byte_len}
 use Rattle.std.proofs.lemmas.Bool.{ltb-true, ltb-false, lt-ltb, le-ltb, eqb-true, eqb-false, ne_eqb, false≢true}
 use Rattle.std.proofs.lemmas.List.{take-append-drop, length-append, length-take, length-replicate, take_at, drop_at}
-use Rattle.dbus_signature.specs.Reading.{Read, Reader, ◌>>=◌}
-use Rattle.dbus_signature.proofs.Sound.{bind_ok, ok_is, not_ok, chosen, Takes}
+use Rattle.dbus_signature.specs.Reading.{Reader, ◌>>=◌}
+use Rattle.dbus_signature.proofs.Sound.{chosen, Takes}
 use Rattle.dbus_signature.proofs.Stops.{bind_err, err_is, not_err}
 use Rattle.dbus_wire.specs.declared.value.Endian.{Endian}
 use Rattle.dbus_wire.specs.Fields.{gap, zeros_at, padding_at, from_bytes, number_at, aligned_at, bool_of, bool_at, ended_at, text_at}
 use Rattle.dbus_wire.specs.Spelling.{padding, to_bytes, aligned}
-use Rattle.dbus_wire.specs.Faults.{Fault, Behind, Then, ThenOf, NoZero, ZeroFault, ZerosFault, PaddingFault, Missing, NumberFault, Above, LimitFault, BoolFault, EndedFault, TextFault}
-use Rattle.dbus_wire.proofs.Took.{IsBytes, bytes_rest, padding_takes, nul_takes, IsExact, exact16, exact32, exact64, number_takes, aligned_takes}
-use Rattle.dbus_wire.proofs.Again.{padding_again, nul_again, IsWide, wide16, wide32, wide64, number_again, aligned_again}
+use Rattle.dbus_wire.specs.Faults.{Fault, Then, ThenOf, NoZero, ZeroFault, ZerosFault, PaddingFault, Missing, NumberFault, LimitFault, BoolFault, EndedFault, TextFault}
+use Rattle.dbus_wire.proofs.Took.{IsBytes, bytes_rest, padding_takes, IsExact, exact32, number_takes, aligned_takes}
+use Rattle.dbus_wire.proofs.Again.{padding_again, IsWide, wide32, number_again, aligned_again}
 
 -- A reader fails at a place exactly where it is one of the fault.
 pub record Blames {A : Type 0} (reader : Reader A) (fault : Fault) : Type 0 where

@@ -17,3 +17,4 @@ pub mod Blames
 pub mod SignatureBlames
 pub mod ValueBlames
 pub mod WrittenLaws
+pub mod RowLaws

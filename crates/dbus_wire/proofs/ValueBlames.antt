@@ -1,16 +1,16 @@
 -- Where a value in bytes is at fault.
-use Rattle.std.proofs.Common.{◌≡◌, ℕ, zero, suc, ◌+◌, ◌^◌, ◌<◌, ◌≤◌, Bool, true, false, ltb, ◌↔◌, List, [], ◌∷◌, ◌++◌, length, take, drop, All, Result, Ok, Err, refl, sym, ap, subst, ◌∙◌, append_assoc, arith, inl, inr, ◌⊎◌}
+use Rattle.std.proofs.Common.{◌≡◌, ℕ, zero, suc, ◌+◌, ◌^◌, ◌<◌, ◌≤◌, true, false, ltb, ◌↔◌, List, [], ◌∷◌, ◌++◌, length, take, drop, All, Result, Ok, Err, refl, sym, ap, subst, ◌∙◌, append_assoc, arith, inl, inr}
 use Rattle.std.specs.Int.{w16, w32, w64, cast_signed}
 use Rattle.std.specs.List.{AllByRecursion}
-use Rattle.std.proofs.lemmas.Bool.{ltb-true, ltb-false, lt-ltb, le-ltb}
-use Rattle.std.proofs.lemmas.List.{append-nil, length-append, length-take, take-append-drop}
+use Rattle.std.proofs.lemmas.Bool.{ltb-true, lt-ltb, le-ltb}
+use Rattle.std.proofs.lemmas.List.{append-nil, length-append, length-take}
 use Rattle.dbus_signature.specs.declared.kind.Basic.{Basic}
 use Rattle.dbus_signature.specs.declared.kind.Basic.TheVariants as basic
 use Rattle.dbus_signature.specs.declared.kind.Kind.{Kind}
-use Rattle.dbus_signature.specs.declared.kind.Kind.TheVariants.{Array, Dict, Struct}
+use Rattle.dbus_signature.specs.declared.kind.Kind.TheVariants.{Array, Dict}
 use Rattle.dbus_signature.specs.declared.kind.Kind.TheViews.{out-Kind}
 use Rattle.dbus_signature.specs.declared.kind.Kind.TheOpen.{Kind-F}
-use Rattle.dbus_signature.specs.Reading.{Read, Reader, ◌>>=◌}
+use Rattle.dbus_signature.specs.Reading.{Reader, ◌>>=◌}
 use Rattle.dbus_signature.specs.Types.{codes}
 use Rattle.dbus_signature.specs.Signatures.{IsKind, SpellsType}
 use Rattle.dbus_signature.specs.FirstFault.{IsType}
@@ -25,10 +25,10 @@ use Rattle.dbus_wire.specs.declared.strings.StringKind.TheVariants as string
 use Rattle.dbus_wire.specs.Alignment.{alignment}
 use Rattle.dbus_wire.specs.Texts.{is_string}
 use Rattle.dbus_wire.specs.Fields.{aligned_at, bool_at, byte_at, number_at, padding_at, signature_at, text_at, type_at}
-use Rattle.dbus_wire.specs.Values.{as_value, array_at, basic_value_at, closed_value_by, contents_at, entry_at, items_at, max_array, max_open, members_at, pair_at, struct_at, value_at, value_by, value_of, variant_at, whole_items, within_limit}
+use Rattle.dbus_wire.specs.Values.{array_at, basic_value_at, closed_value_by, contents_at, entry_at, items_at, max_array, max_open, members_at, pair_at, struct_at, value_at, value_by, value_of, variant_at, whole_items, within_limit}
 use Rattle.dbus_wire.specs.Spelling.{padding, signature_spelling, spelling, spellings, to_bytes}
 use Rattle.dbus_wire.specs.Fits.{Each, Fits, FitsEntry, IsBasic, Said}
-use Rattle.dbus_wire.specs.Faults.{Fault, ArrayFault, BasicFault, Behind, ClosedFault, ContentsFault, EntryFaultAt, FaultAt, FaultThere, LimitFault, MembersFault, Missing, OpenFault, PaddingFault, PairFault, SignatureFault, StructFault, Then, ThenOf, VariantFault}
+use Rattle.dbus_wire.specs.Faults.{Fault, ArrayFault, BasicFault, ClosedFault, ContentsFault, EntryFaultAt, FaultAt, FaultThere, LimitFault, MembersFault, Missing, OpenFault, PaddingFault, PairFault, SignatureFault, StructFault, Then, VariantFault}
 use Rattle.dbus_wire.proofs.Took.{IsBytes, bytes_drop, bytes_rest, bytes_take, exact32, number_takes}
 use Rattle.dbus_wire.proofs.Again.{number_again, wide32}
 use Rattle.dbus_wire.proofs.BasicTook.{basic_took}

@@ -138,3 +138,7 @@ closed_value_at endian kind = closed_value_by endian (out-Kind kind)
 -- The value at an offset in bytes, and the offset after it; or the place of the fault.
 abbrev pub value_of : Endian → Kind → ℕ → List ℕ → Result (Value × ℕ) ℕ
 value_of endian kind offset bytes = value_at endian max_open kind offset (drop offset bytes) >>= λ found. Ok (found.0, found.1)
+
+-- The values of types one after the other at an offset in bytes, and the offset after them; or the place of the fault.
+abbrev pub values_of : Endian → List Kind → ℕ → List ℕ → Result (List Value × ℕ) ℕ
+values_of endian kinds offset bytes = members_at (value_at endian max_open) kinds offset (drop offset bytes) >>= λ found. Ok (found.0, found.1)

@@ -144,8 +144,9 @@ fn struct_at<'a>(
     Ok((Value::Struct(members), after))
 }
 
+/// Values one after the other, each of its type.
 #[cycle(value)]
-fn members_at<'a>(
+pub fn members_at<'a>(
     context: Context,
     kinds: &[Kind],
     from: Cursor<'a>,

@@ -21,6 +21,6 @@ pub use laws::{
     a_fault_where_nothing_is_spelt, no_spelling_begins_another, read_is_written_again,
     written_is_read,
 };
-pub use read::read_value;
+pub use read::{read_value, read_values};
 pub use value::{Endian, Value};
 pub use writing::write_value;

@@ -1,0 +1,4 @@
+pub mod Names
+pub mod Headers
+pub mod Known
+pub mod Messages
