@@ -1,3 +1,4 @@
 pub mod BodyLaws
+pub mod CutLaws
 pub mod KnownLaws
 pub mod NameLaws

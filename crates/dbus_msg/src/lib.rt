@@ -1,12 +1,15 @@
-//! D-Bus messages: read whole out of their bytes, with names by the grammars of the D-Bus Specification.
+//! D-Bus messages: whole or out of a stream in pieces, with names by the grammars of the D-Bus Specification.
 #![tactic(auto)]
 
+mod cutting;
+mod decoder;
 mod header;
 mod known;
 mod message;
 mod names;
 mod reading;
 
+pub use decoder::{Decoder, Fed, FeedEnd};
 pub use header::{Header, read_header};
 pub use message::{Fields, Message};
 pub use names::{is_bus_name, is_interface, is_member};

@@ -1,4 +1,4 @@
-//! Rows of the D-Bus crates: lines of authentication, signatures, and values of each type in both byte orders, read and
+//! Rows of the D-Bus crates: lines of authentication, signatures, messages, and values of each type in both byte orders, read and
 //! written again.
 #![tactic(auto)]
 
@@ -8,6 +8,8 @@ pub use again::again_at;
 
 #[cfg(test)]
 mod auth_tests;
+#[cfg(test)]
+mod message_tests;
 #[cfg(test)]
 mod signature_tests;
 #[cfg(test)]

@@ -1,0 +1,76 @@
+use dbus_msg::{Message, read_message};
+use std::alloc::Global;
+use std::test::Fail;
+
+/// A call of Ping, in little-endian bytes.
+const PING: [u8; 88] =
+    *b"l\x01\0\x01\0\0\0\0\x01\0\0\0E\0\0\0\x01\x01o\0\x01\0\0\0/\0\0\0\0\0\0\0\x02\x01s\0\x19\0\0\0org.freedesktop.DBus.Peer\0\0\0\0\0\0\0\x03\x01s\0\x04\0\0\0Ping\0\0\0\0";
+
+/// What answers it.
+const ANSWER: [u8; 24] = *b"l\x02\x01\x01\0\0\0\0\x01\0\0\0\x08\0\0\0\x05\x01u\0\x01\0\0\0";
+
+/// A signal with the values of `sb`, in big-endian bytes.
+const SIGNAL: &[u8] =
+    b"B\x04\x01\x01\0\0\0\x0c\0\0\0\x07\0\0\08\x01\x01o\0\0\0\0\x02/a\0\0\0\0\0\0\x02\x01s\0\0\0\0\x05a.b_c\0\0\0\x03\x01s\0\0\0\0\x01X\0\0\0\0\0\0\0\x08\x01g\0\x02sb\0\0\0\0\x03eth\0\0\0\0\x01";
+
+/// The message that bytes are.
+fn read(alloc: Global, bytes: &[u8]) -> Result<Option<Message>, Fail> {
+    if bytes.len() < 16 {
+        return Err(Fail::from("too short for a message"));
+    }
+    Ok(read_message(alloc, bytes)?)
+}
+
+#[test]
+fn messages_are_read(rt: HostRuntime) -> Result<(), Fail> {
+    let alloc = rt.alloc();
+    let ping = read(alloc, &PING)?.ok_or("no message")?;
+    assert_eq!(rt; ping.kind, 1);
+    assert_eq!(rt; ping.serial, 1);
+    assert!(rt; ping.fields.path.is_some_and(|path| path.as_str() == "/"));
+    assert!(rt;
+        ping.fields
+            .member
+            .is_some_and(|member| member.as_str() == "Ping")
+    );
+    assert_eq!(rt; ping.body.len(), 0);
+    let answer = read(alloc, &ANSWER)?.ok_or("no message")?;
+    assert_eq!(rt; answer.fields.reply_serial, Some(1));
+    let signal = read(alloc, SIGNAL)?.ok_or("no message")?;
+    let shown = format!(in alloc; "{:?}", signal.body.as_slice())?;
+    assert_eq!(rt; shown.as_str(), "[Str(eth), Bool(true)]");
+    Ok(())
+}
+
+#[test]
+fn changed_messages_are_refused(rt: HostRuntime) -> Result<(), Fail> {
+    // A place in the call of Ping, another byte there, and whether that is still a message.
+    let table: [(usize, u8, bool); 17] = [
+        (0, b'B', false),
+        (0, b'L', false),
+        (1, 0, false),
+        (1, 5, true),
+        (1, 2, false),
+        (2, 255, true),
+        (3, 2, false),
+        (4, 1, false),
+        (8, 0, false),
+        (15, 4, false),
+        (16, 0, false),
+        (16, 200, false),
+        (18, b's', false),
+        (27, 1, false),
+        (32, 200, true),
+        (44, b'.', false),
+        (72, b'9', false),
+    ];
+    for (place, byte, is_message) in &table {
+        let mut bytes = PING;
+        if *place < 88 {
+            bytes[*place] = *byte;
+        }
+        let read = read(rt.alloc(), &bytes)?;
+        assert_eq!(rt; read.is_some(), *is_message, "{place}");
+    }
+    Ok(())
+}
