@@ -2,3 +2,4 @@ pub mod BodyLaws
 pub mod CutLaws
 pub mod KnownLaws
 pub mod NameLaws
+pub mod StreamLaws

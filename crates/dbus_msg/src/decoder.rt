@@ -58,7 +58,7 @@ fn drop_front(bytes: &mut Vec<u8>, count: usize)
 
 /// Puts a piece behind the bytes kept, and cuts the whole messages off their front.
 fn take_in(alloc: Global, kept: &mut Vec<u8>, piece: &[u8]) -> Cut
-    ensures within { result.at ≤ length kept.old.items + length piece.now }
+    ensures bound { length kept.new.items + result.at ≤ length kept.old.items + length piece.now }
     ensures open { result.end ≡ CutEnd.Open → Split (kept.old.items ++ piece.now) result.messages kept.new.items }
     ensures rest { result.end ≡ CutEnd.Open → length kept.new.items + result.at ≡ length kept.old.items + length piece.now }
     ensures bad { result.end ≡ CutEnd.Bad → BadAt (kept.old.items ++ piece.now) result.messages result.at }
@@ -96,6 +96,7 @@ impl Decoder {
     pub fn feed(&mut self, piece: &[u8]) -> Fed
         requires { self.old.place + (length self.old.bytes + length piece.now) < 2 ^ 64 }
         ensures end { self.new.end ≡ result.end }
+        ensures bound { self.new.place + length self.new.bytes ≤ self.old.place + (length self.old.bytes + length piece.now) }
         // An end stays.
         ensures ended { self.old.end ≢ FeedEnd.Open → (result.messages ≡ []) × (self.new ≡ self.old) }
         // The messages are the whole ones of the bytes kept and the piece, and the rest is kept.

@@ -1,4 +1,4 @@
-use dbus_msg::{Message, read_message};
+use dbus_msg::{Decoder, FeedEnd, Message, read_message};
 use std::alloc::Global;
 use std::test::Fail;
 
@@ -72,5 +72,56 @@ fn changed_messages_are_refused(rt: HostRuntime) -> Result<(), Fail> {
         let read = read(rt.alloc(), &bytes)?;
         assert_eq!(rt; read.is_some(), *is_message, "{place}");
     }
+    Ok(())
+}
+
+/// Feeds bytes in pieces of a size: how many messages came, how the last piece left the stream, and whether nothing is
+/// held.
+fn fed(alloc: Global, bytes: &[u8], size: usize) -> (usize, FeedEnd, bool) {
+    let mut decoder = Decoder::new(alloc);
+    let mut count = 0usize;
+    let mut end = FeedEnd::Open;
+    let mut left = 1_000_000usize;
+    for piece in bytes.chunks(size.max(1)) {
+        if piece.len() <= left {
+            let fed = decoder.feed(piece);
+            count = count.saturating_add(fed.messages.len());
+            end = fed.end;
+            left -= piece.len();
+        }
+    }
+    (count, end, decoder.is_between())
+}
+
+#[test]
+fn a_stream_in_pieces_gives_its_messages(rt: HostRuntime) -> Result<(), Fail> {
+    let alloc = rt.alloc();
+    let mut stream = Vec::new(alloc);
+    stream.extend_from_slice(&PING)?;
+    stream.extend_from_slice(&ANSWER)?;
+    stream.extend_from_slice(SIGNAL)?;
+    for size in 1..200usize {
+        assert_eq!(rt; fed(alloc, &PING[..10], size), (0, FeedEnd::Open, false));
+        assert_eq!(rt; fed(alloc, &PING, size), (1, FeedEnd::Open, true));
+        assert_eq!(rt;
+            fed(alloc, stream.as_slice(), size),
+            (3, FeedEnd::Open, true)
+        );
+    }
+    let mut serial_of_zero = PING;
+    serial_of_zero[8] = 0;
+    assert_eq!(rt;
+        fed(alloc, &serial_of_zero, 88),
+        (0, FeedEnd::Bad(0), false)
+    );
+    stream.extend_from_slice(&serial_of_zero)?;
+    assert_eq!(rt;
+        fed(alloc, stream.as_slice(), 1000),
+        (3, FeedEnd::Bad(196), false)
+    );
+    assert_eq!(rt;
+        fed(alloc, stream.as_slice(), 1),
+        (3, FeedEnd::Bad(196), false)
+    );
     Ok(())
 }
