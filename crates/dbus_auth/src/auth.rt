@@ -1,13 +1,18 @@
 //! The authentication of one connection.
-ghost use Rattle.std.specs.Prelude.{◌≡◌, ℕ};
+ghost use Rattle.std.specs.Prelude.{◌≡◌, ℕ, codes};
 ghost use Rattle.dbus_auth.specs.Table.{ended, is_data, is_error, rejected, step, step_accepted, step_data, step_start};
 
 use super::identity::has_identity;
 use super::{AuthAnswer, AuthEnd, Stage};
 use std::marker::Model;
 
-/// The server's GUID, as it stands behind `OK`: 32 hexadecimal digits.
-pub const GUID: &str = "46495245574c4c440000000000000001";
+/// The server's GUID, as it stands behind `OK`: 32 hexadecimal digits, the same for each connection (D-Bus
+/// Specification, "Authentication Protocol", its command OK).
+pub fn guid() -> &'static str
+    ensures { result.now ≡ codes "46495245574c4c440000000000000001" }
+{
+    "46495245574c4c440000000000000001"
+}
 
 /// How many rejections end a connection.
 const LAST_REJECTION: u8 = 10;

@@ -5,8 +5,8 @@
 mod answer;
 mod auth;
 mod identity;
-#[cfg(test)]
-mod tests;
+mod laws;
 
 pub use answer::{AuthAnswer, AuthEnd, Stage};
-pub use auth::{Auth, GUID};
+pub use auth::{Auth, guid};
+pub use laws::the_tenth_rejection_ends;

@@ -1,4 +1,5 @@
-//! Rows of the D-Bus crates: each type in both byte orders and at the offsets 0 to 7, read and written again.
+//! Rows of the D-Bus crates: lines of authentication, signatures, messages, and values of each type in both byte orders, read and
+//! written again.
 #![tactic(auto)]
 
 mod again;
@@ -6,4 +7,12 @@ mod again;
 pub use again::again_at;
 
 #[cfg(test)]
+mod auth_tests;
+#[cfg(test)]
+mod message_tests;
+#[cfg(test)]
+mod signature_tests;
+#[cfg(test)]
 mod tests;
+#[cfg(test)]
+mod value_tests;

@@ -167,3 +167,27 @@ fn sixty_four_containers_may_be_open(rt: HostRuntime) -> Result<(), Fail> {
     assert!(rt; read.is_err_and(|place| place == 192));
     Ok(())
 }
+
+/// So many numbers of four bytes, as an array in little-endian bytes behind as many other bytes.
+fn many(alloc: Global, before: usize, count: u32) -> Result<Vec<u8>, AllocError> {
+    let mut bytes = Vec::new(alloc);
+    for _ in 0..before {
+        bytes.push(170)?;
+    }
+    bytes.extend_from_slice(&count.wrapping_mul(4).to_le_bytes())?;
+    for number in 0..count {
+        bytes.extend_from_slice(&number.to_le_bytes())?;
+    }
+    Ok(bytes)
+}
+
+#[test]
+fn large_values_are_read_and_written(rt: HostRuntime) -> Result<(), Fail> {
+    let alloc = rt.alloc();
+    for before in [0usize, 4096] {
+        let bytes = many(alloc, before, 20_000)?;
+        let read = again(alloc, b"au", bytes.as_slice(), before, Endian::Little)?;
+        assert!(rt; read.is_ok_and(|out| out.as_slice() == bytes.as_slice()));
+    }
+    Ok(())
+}

@@ -27,7 +27,7 @@ kinds_take (suc n) at (c ∷ text) kinds e =
     (t.0.parts ∙ ap (λ (s : List ℕ). codes f.0.0 ++ s) u.0, and_from _ _ t.1 u.1)
 
 -- one step, at a text that goes on
-kinds_step : (n at : ℕ) (text : List ℕ) (c : ℕ) (more : List ℕ) → text ≡ c ∷ more → kinds_at (suc n) at text ≡ (kind_at max_nesting max_nesting at text >>= λ first. kinds_at n first.1 first.2 >>= λ others. Ok (first.0 ∷ others))
+pub kinds_step : (n at : ℕ) (text : List ℕ) (c : ℕ) (more : List ℕ) → text ≡ c ∷ more → kinds_at (suc n) at text ≡ (kind_at max_nesting max_nesting at text >>= λ first. kinds_at n first.1 first.2 >>= λ others. Ok (first.0 ∷ others))
 unfolding kinds_at
 kinds_step n at text c more is = rw is refl
 

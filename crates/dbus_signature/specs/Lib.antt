@@ -2,3 +2,4 @@ pub mod Cursors
 pub mod Reading
 pub mod Types
 pub mod Signatures
+pub mod FirstFault

@@ -5,6 +5,7 @@ mod cursor;
 mod error;
 mod kind;
 mod kinds;
+mod laws;
 mod signature;
 mod spelling;
 
@@ -12,7 +13,5 @@ pub use cursor::Cursor;
 pub use error::WireError;
 pub use kind::{Basic, Kind};
 pub use kinds::{kinds_at, one_kind_at};
+pub use laws::a_signature_fault_is_the_first;
 pub use signature::{Signature, read_signature};
-
-#[cfg(test)]
-mod tests;

@@ -13,7 +13,7 @@ use Rattle.dbus_signature.proofs.Complete.{kind_again, count_le}
 use Rattle.dbus_signature.proofs.Whole.{kinds_again}
 use Rattle.dbus_wire.specs.declared.value.Endian.{Endian}
 use Rattle.dbus_wire.specs.declared.value.Endian.TheVariants.{Little, Big}
-use Rattle.dbus_wire.specs.Fields.{gap, zeros_at, padding_at, from_bytes, number_at, aligned_at, bool_of, bool_at, ended_at, text_at, byte_at, signature_at, type_at}
+use Rattle.dbus_wire.specs.Fields.{gap, zeros_at, padding_at, from_bytes, number_at, aligned_at, bool_of, bool_at, ended_at, text_at, byte_at, codes_at, signature_at, type_at}
 use Rattle.dbus_wire.specs.Spelling.{padding, to_bytes, aligned, bit, text_spelling, signature_spelling}
 
 abbrev pub found : {A : Type 0} → A → ℕ → List ℕ → Read A
@@ -108,14 +108,14 @@ codes_again codes s at =
     ap (kinds_at (length codes) at) s.spelt ∙ kinds_again s.kinds (length codes) at enough s.nested
 
 pub signature_again : (codes : List ℕ) (at : ℕ) (rest : List ℕ) → IsSignature codes → signature_at at (signature_spelling codes ++ rest) ≡ found codes (at + length (signature_spelling codes)) rest
-unfolding signature_at byte_at
+unfolding signature_at codes_at byte_at
 signature_again codes at rest s =
     let regrouped : (codes ++ 0 ∷ []) ++ rest ≡ codes ++ (0 ∷ rest) = append_assoc codes (0 ∷ []) rest in
     rw (regrouped, take_at codes (0 ∷ rest) (length codes) refl, drop_at codes (0 ∷ rest) (length codes) refl, codes_again codes s (at + 1), nul_again (at + 1 + length codes) rest)
     (moved_to codes _ _ rest (omega (arith, length-append codes (0 ∷ []))))
 
 pub type_again : (text : List ℕ) (kind : Kind) (at : ℕ) (rest : List ℕ) → SpellsType text kind → type_at at (signature_spelling text ++ rest) ≡ found (kind, text) (at + length (signature_spelling text)) rest
-unfolding type_at byte_at
+unfolding type_at codes_at byte_at
 type_again text kind at rest s =
     let regrouped : (text ++ 0 ∷ []) ++ rest ≡ text ++ (0 ∷ rest) = append_assoc text (0 ∷ []) rest in
     let one : kind_at 32 32 (at + 1) text ≡ Ok (kind, at + 1 + length (codes kind), []) = ap (kind_at 32 32 (at + 1)) (s.spelt ∙ sym (append-nil (codes kind))) ∙ kind_again 64 32 32 (omega arith) kind (at + 1) [] s.nested in

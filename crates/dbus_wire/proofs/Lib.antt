@@ -1,6 +1,7 @@
 pub mod Again
 pub mod BasicAgain
 pub mod FieldLaws
+pub mod KeepsLaws
 pub mod RoundTrip
 pub mod PatchLaws
 pub mod Some
@@ -12,3 +13,8 @@ pub mod Took
 pub mod BasicTook
 pub mod ValueTook
 pub mod ReadLaws
+pub mod Blames
+pub mod SignatureBlames
+pub mod ValueBlames
+pub mod WrittenLaws
+pub mod RowLaws

@@ -25,7 +25,7 @@ value_is_spelt e k offset bytes found is fits h =
     subst (λ (f : Value × ℕ). SpeltThere e k offset bytes f) (ok_is (b.0.0, b.0.1) found b.2)
     (record { text = spelling e b.0.0 offset; after = b.0.2; split = t.0.parts; end = t.0.moved; spells = record { fits = t.1; bytes_are = refl } })
 
-kind_is : (codes : List ℕ) (k : Kind) → SpellsType codes k → IsKind k
+pub kind_is : (codes : List ℕ) (k : Kind) → SpellsType codes k → IsKind k
 kind_is codes k s = subst (λ (t : List ℕ). SpellsType t k) s.spelt s
 
 pub found_is_spelt : (r : Result (Value × ℕ) WireError) (e : Endian) (codes : List ℕ) (offset : ℕ) (bytes : List ℕ) → IsBytes bytes

@@ -8,12 +8,12 @@ use Rattle.dbus_signature.specs.declared.kind.Kind.{Kind}
 use Rattle.dbus_signature.specs.declared.kind.Kind.TheVariants.{Basic as Plain, Variant, Array, Dict, Struct, rolls-Basic, rolls-Variant, rolls-Array, rolls-Dict, rolls-Struct}
 use Rattle.dbus_signature.specs.declared.kind.Kind.TheViews.{out-Kind, out-roll-Kind}
 use Rattle.dbus_signature.specs.declared.kind.Kind.TheOpen.{Kind-F}
-use Rattle.dbus_signature.specs.Types.{code, codes}
-use Rattle.dbus_signature.proofs.KindLaws.{by_kind, codes_plain, codes_variant, codes_array, codes_dict, codes_struct}
+use Rattle.dbus_signature.specs.Types.{codes}
+use Rattle.dbus_signature.proofs.KindLaws.{codes_array, codes_dict}
 use Rattle.dbus_wire.specs.declared.value.Endian.{Endian}
 use Rattle.dbus_wire.specs.declared.value.Value.{Value}
-use Rattle.dbus_wire.specs.Values.{alignment, basic_alignment}
-use Rattle.dbus_wire.specs.Spelling.{spelling, padding, aligned, to_bytes, bit, text_spelling, element_alignment, letter_alignment}
+use Rattle.dbus_wire.specs.Alignment.{alignment, element_alignment}
+use Rattle.dbus_wire.specs.Spelling.{spelling, padding, aligned, to_bytes, bit, text_spelling}
 use Rattle.dbus_wire.specs.Fits.{IsBasic}
 use Rattle.dbus_wire.proofs.Again.{IsWide, wide16, wide32, wide64}
 use Rattle.dbus_wire.proofs.SpellingLaws.{spelt_byte, spelt_bool, spelt_i16, spelt_u16, spelt_i32, spelt_u32, spelt_i64, spelt_u64, spelt_double, spelt_fd, spelt_str, spelt_path, spelt_sig}
@@ -35,31 +35,8 @@ out_struct ks = ap out-Kind (sym (rolls-Struct ks)) ∙ out-roll-Kind (Kind-F.St
 
 -- ---- the alignment of elements
 
-plain_aligned : (b : Basic) → letter_alignment (code b) ≡ basic_alignment b
-plain_aligned basic.Byte = refl
-plain_aligned basic.Bool = refl
-plain_aligned basic.I16 = refl
-plain_aligned basic.U16 = refl
-plain_aligned basic.I32 = refl
-plain_aligned basic.U32 = refl
-plain_aligned basic.I64 = refl
-plain_aligned basic.U64 = refl
-plain_aligned basic.Double = refl
-plain_aligned basic.Str = refl
-plain_aligned basic.Path = refl
-plain_aligned basic.Sig = refl
-plain_aligned basic.Fd = refl
-
-inner_aligned : (e : Kind) → element_alignment (97 ∷ codes e) ≡ alignment e
-inner_aligned = by_kind (λ e. element_alignment (97 ∷ codes e) ≡ alignment e)
-    (λ b. rw (codes_plain b, out_plain b) (plain_aligned b))
-    (rw (codes_variant, out_variant) refl)
-    (λ e. rw (codes_array e, out_array e) refl)
-    (λ b e. rw (codes_dict b e, out_dict b e) refl)
-    (λ ks. rw (codes_struct ks, out_struct ks) refl)
-
 pub array_aligned : (e : Kind) → element_alignment (codes (Array e)) ≡ alignment e
-array_aligned e = rw (codes_array e) (inner_aligned e)
+array_aligned e = rw (codes_array e) refl
 
 pub dict_aligned : (b : Basic) (e : Kind) → element_alignment (codes (Dict b e)) ≡ 8
 dict_aligned b e = rw (codes_dict b e) refl

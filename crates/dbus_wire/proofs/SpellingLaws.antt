@@ -10,7 +10,8 @@ use Rattle.dbus_wire.specs.declared.value.Value.TheVariants.{rolls-Byte, rolls-B
 use Rattle.dbus_wire.specs.declared.value.Value.TheOpen.{Value-F}
 use Rattle.dbus_wire.specs.declared.value.Value.TheViews.{roll-Value}
 use Rattle.dbus_wire.specs.declared.value.Value.TheFolds.{fold-roll-Value}
-use Rattle.dbus_wire.specs.Spelling.{spelling, spellings, spelling_step, aligned, bit, text_spelling, signature_spelling, array_spelling, element_alignment, behind_padding}
+use Rattle.dbus_wire.specs.Spelling.{spelling, spellings, spelling_step, aligned, bit, text_spelling, signature_spelling, array_spelling, behind_padding}
+use Rattle.dbus_wire.specs.Alignment.{element_alignment}
 
 rolled : (e : Endian) (v : Value) (x : Value-F Value) (at : ℕ) → roll-Value x ≡ v → spelling e v at ≡ spelling e (roll-Value x) at
 rolled e v x at is = ap (λ (w : Value). spelling e w at) (sym is)

@@ -1,9 +1,9 @@
 -- What is read of a field is its spelling.
-use Rattle.std.proofs.Common.{◌≡◌, ℕ, zero, suc, ◌+◌, ◌^◌, ◌<◌, ◌≤◌, Bool, true, false, cond, ltb, eqb, List, [], ◌∷◌, ◌++◌, length, get_or, take, drop, Ok, Err, refl, sym, ap, subst, ◌∙◌, arith, inl, inr}
+use Rattle.std.proofs.Common.{◌≡◌, ℕ, zero, suc, ◌+◌, ◌^◌, ◌<◌, ◌≤◌, Bool, true, false, cond, ltb, eqb, List, [], ◌∷◌, ◌++◌, length, get_or, take, drop, Ok, Err, refl, sym, ap, subst, ◌∙◌, append_assoc, arith, inl, inr}
 use Rattle.std.specs.Prelude.{replicate}
 use Rattle.std.specs.Int.{Width, w16, w32, w64, byte_len}
 use Rattle.std.proofs.lemmas.Bool.{ltb-false, eqb-true}
-use Rattle.std.proofs.lemmas.List.{take-append-drop, length-take, length-drop, get_or-drop, get_or-take, get_or_past, drop_at}
+use Rattle.std.proofs.lemmas.List.{take-append-drop, length-append, length-take, length-drop, get_or-drop, get_or-take, get_or_past, drop_at}
 use Rattle.std.proofs.lemmas.Bool.{cases_lt}
 use Rattle.std.proofs.lemmas.Nat.{le_bytes_2, le_bytes_4, le_bytes_8, be_bytes_2, be_bytes_4, be_bytes_8}
 use Rattle.dbus_signature.specs.declared.kind.Kind.{Kind}
@@ -12,7 +12,7 @@ use Rattle.dbus_signature.specs.Signatures.{kind_at, kinds_at, IsSignature, Spel
 use Rattle.dbus_signature.proofs.Sound.{bind_ok, ok_is, not_ok, chosen, Takes, Takes-then}
 use Rattle.dbus_wire.specs.declared.value.Endian.{Endian}
 use Rattle.dbus_wire.specs.declared.value.Endian.TheVariants.{Little, Big}
-use Rattle.dbus_wire.specs.Fields.{gap, zeros_at, padding_at, from_bytes, number_at, aligned_at, bool_of, bool_at, ended_at, text_at, byte_at, signature_at, one_type_of, type_at}
+use Rattle.dbus_wire.specs.Fields.{gap, zeros_at, padding_at, from_bytes, number_at, aligned_at, bool_of, bool_at, ended_at, text_at, byte_at, closed_at, codes_at, signature_at, one_type_of, type_at}
 use Rattle.dbus_wire.specs.Spelling.{padding, to_bytes, aligned, bit, text_spelling, signature_spelling}
 use Rattle.dbus_wire.proofs.StringLaws.{codes_signature, one_type_spelt}
 
@@ -165,46 +165,64 @@ byte_reads at text x fits h =
     let first : get_or text 0 0 ≡ x.0 = ap (λ (l : List ℕ). get_or l 0 0) t.parts in
     (t, omega (arith, fits 0, first))
 
--- what a signature's bytes are, once its codes and the NUL behind them were read
-codes_take : (n at : ℕ) (text : List ℕ) (nul : Unit {0} × ℕ × List ℕ) → zeros_at 1 (at + length (take n text)) (drop n text) ≡ Ok nul → Takes at text (take n text ++ 0 ∷ []) nul.1 nul.2 × (length (take n text) ≡ n)
-codes_take n at text nul h =
-    let t = nul_takes (at + length (take n text)) (drop n text) nul h in
-    let long : length (drop n text) ≡ suc (length nul.2) = ap length t.parts in
-    let len : length (take n text) ≡ n = omega (arith, length-take n text, length-drop n text) in
-    let head : Takes at text (take n text) (at + length (take n text)) (drop n text) = record { parts = sym (take-append-drop n text); moved = refl } in
-    (Takes-then at text (take n text) (at + length (take n text)) (drop n text) (0 ∷ []) nul.1 nul.2 head t, len)
+-- The codes were taken behind their length, as many as were there; and what is left, if their NUL stands there.
+record TookCodes (at : ℕ) (text : List ℕ) (x : (ℕ × List ℕ) × ℕ × List ℕ) : Type 0 where
+  count : ℕ
+  below : count < 256
+  place : x.0.0 ≡ at + 1
+  behind : x.1 ≡ x.0.0 + length x.0.1
+  short : length x.0.1 ≤ count
+  left : List ℕ
+  parts : text ≡ count ∷ left
+  codes : x.0.1 ≡ take count left
+  others : x.2 ≡ drop count left
+
+codes_take : (at : ℕ) (text : List ℕ) (x : (ℕ × List ℕ) × ℕ × List ℕ) → IsBytes text → codes_at at text ≡ Ok x → TookCodes at text x
+unfolding codes_at
+codes_take at text x fits h =
+    let n = bind_ok (byte_at at text) (λ n. Ok ((n.1, take n.0 n.2), n.1 + length (take n.0 n.2), drop n.0 n.2)) x h in
+    let b = byte_reads at text n.0 fits n.1 in
+    subst (λ (y : (ℕ × List ℕ) × ℕ × List ℕ). TookCodes at text y) (ok_is ((n.0.1, take n.0.0 n.0.2), n.0.1 + length (take n.0.0 n.0.2), drop n.0.0 n.0.2) x n.2)
+    (record { count = n.0.0; below = b.1; place = b.0.moved; behind = refl; short = omega (arith, length-take n.0.0 n.0.2); left = n.0.2; parts = b.0.parts; codes = refl; others = refl })
+
+-- with its NUL the signature was taken
+closed_takes : {A : Type 0} (y : A) (at : ℕ) (text : List ℕ) (c : (ℕ × List ℕ) × ℕ × List ℕ) (x : A × ℕ × List ℕ) → TookCodes at text c → closed_at y c.1 c.2 ≡ Ok x → Takes at text (signature_spelling c.0.1) x.1 x.2 × (y ≡ x.0)
+closed_takes {A} y at text c x t h =
+    let z = bind_ok (zeros_at 1 c.1 c.2) (λ nul. Ok (y, nul.1, nul.2)) x h in
+    let n = nul_takes c.1 c.2 z.0 z.1 in
+    let long : length (drop t.count t.left) ≡ suc (length z.0.2) = ap length (sym t.others ∙ n.parts) in
+    let len : length (take t.count t.left) ≡ t.count = omega (arith, length-take t.count t.left, length-drop t.count t.left) in
+    let count : t.count ≡ length c.0.1 = sym len ∙ ap length (sym t.codes) in
+    let whole : t.left ≡ c.0.1 ++ (0 ∷ z.0.2) = sym (take-append-drop t.count t.left) ∙ ap (λ (l : List ℕ). l ++ drop t.count t.left) (sym t.codes) ∙ ap (λ (l : List ℕ). c.0.1 ++ l) (sym t.others ∙ n.parts) in
+    let same = ok_is (y, z.0.1, z.0.2) x z.2 in
+    subst (λ (w : A × ℕ × List ℕ). Takes at text (signature_spelling c.0.1) w.1 w.2 × (y ≡ w.0)) same (
+      record {
+        parts = t.parts ∙ ap (λ (l : List ℕ). t.count ∷ l) whole ∙ ap (λ (k : ℕ). k ∷ c.0.1 ++ (0 ∷ z.0.2)) count ∙ ap (λ (l : List ℕ). length c.0.1 ∷ l) (sym (append_assoc c.0.1 (0 ∷ []) z.0.2));
+        moved = omega (arith, n.moved, t.behind, t.place, length-append c.0.1 (0 ∷ []));
+      },
+      refl,
+    )
 
 pub signature_takes : (at : ℕ) (text : List ℕ) (x : List ℕ × ℕ × List ℕ) → IsBytes text → signature_at at text ≡ Ok x → Takes at text (signature_spelling x.0) x.1 x.2 × IsSignature x.0
 unfolding signature_at
 signature_takes at text x fits h =
-    let n = bind_ok (byte_at at text) (λ n. kinds_at (length (take n.0 n.2)) n.1 (take n.0 n.2) >>= λ kinds. zeros_at 1 (n.1 + length (take n.0 n.2)) (drop n.0 n.2) >>= λ nul. Ok (take n.0 n.2, nul.1, nul.2)) x h in
-    let front = take n.0.0 n.0.2 in
-    let k = bind_ok (kinds_at (length front) n.0.1 front) (λ kinds. zeros_at 1 (n.0.1 + length front) (drop n.0.0 n.0.2) >>= λ nul. Ok (front, nul.1, nul.2)) x n.2 in
-    let z = bind_ok (zeros_at 1 (n.0.1 + length front) (drop n.0.0 n.0.2)) (λ nul. Ok (front, nul.1, nul.2)) x k.2 in
-    let b = byte_reads at text n.0 fits n.1 in
-    let c = codes_take n.0.0 n.0.1 n.0.2 z.0 z.1 in
-    let head : Takes at text (length front ∷ []) n.0.1 n.0.2 = rw c.1 b.0 in
-    let whole = Takes-then at text (length front ∷ []) n.0.1 n.0.2 (front ++ 0 ∷ []) z.0.1 z.0.2 head c.0 in
-    let short : length front ≤ 255 = omega (arith, c.1, b.1) in
-    subst (λ (y : List ℕ × ℕ × List ℕ). Takes at text (signature_spelling y.0) y.1 y.2 × IsSignature y.0) (ok_is (front, z.0.1, z.0.2) x z.2)
-    (whole, codes_signature (length front) n.0.1 front k.0 k.1 short)
+    let c = bind_ok (codes_at at text) (λ codes. kinds_at (length codes.0.1) codes.0.0 codes.0.1 >>= λ kinds. closed_at codes.0.1 codes.1 codes.2) x h in
+    let k = bind_ok (kinds_at (length c.0.0.1) c.0.0.0 c.0.0.1) (λ kinds. closed_at c.0.0.1 c.0.1 c.0.2) x c.2 in
+    let t = codes_take at text c.0 fits c.1 in
+    let whole = closed_takes c.0.0.1 at text c.0 x t k.2 in
+    subst (λ (y : List ℕ). Takes at text (signature_spelling y) x.1 x.2 × IsSignature y) whole.1
+    (whole.0, codes_signature (length c.0.0.1) c.0.0.0 c.0.0.1 k.0 k.1 (omega (arith, t.short, t.below)))
 
 pub type_takes : (at : ℕ) (text : List ℕ) (x : (Kind × List ℕ) × ℕ × List ℕ) → IsBytes text → type_at at text ≡ Ok x → Takes at text (signature_spelling x.0.1) x.1 x.2 × SpellsType x.0.1 x.0.0
 unfolding type_at
 type_takes at text x fits h =
-    let n = bind_ok (byte_at at text) (λ n. kind_at 32 32 n.1 (take n.0 n.2) >>= λ kind. one_type_of (n.1 + length (take n.0 n.2)) (take n.0 n.2) (drop n.0 n.2) kind) x h in
-    let front = take n.0.0 n.0.2 in
-    let after = drop n.0.0 n.0.2 in
-    let k = bind_ok (kind_at 32 32 n.0.1 front) (λ kind. one_type_of (n.0.1 + length front) front after kind) x n.2 in
-    elim (chosen (eqb (length k.0.2) 0) (zeros_at 1 (n.0.1 + length front) after >>= λ nul. Ok ((k.0.0, front), nul.1, nul.2)) (Err k.0.1) (Ok x) k.2) [
+    let c = bind_ok (codes_at at text) (λ codes. kind_at 32 32 codes.0.0 codes.0.1 >>= λ kind. one_type_of codes.0.1 codes.1 codes.2 kind) x h in
+    let k = bind_ok (kind_at 32 32 c.0.0.0 c.0.0.1) (λ kind. one_type_of c.0.0.1 c.0.1 c.0.2 kind) x c.2 in
+    let t = codes_take at text c.0 fits c.1 in
+    elim (chosen (eqb (length k.0.2) 0) (closed_at (k.0.0, c.0.0.1) c.0.1 c.0.2) (Err k.0.1) (Ok x) k.2) [
       | inr p ↦ absurd (not_ok k.0.1 x p.1)
       | inl p ↦
-          let z = bind_ok (zeros_at 1 (n.0.1 + length front) after) (λ nul. Ok ((k.0.0, front), nul.1, nul.2)) x p.1 in
-          let b = byte_reads at text n.0 fits n.1 in
-          let c = codes_take n.0.0 n.0.1 n.0.2 z.0 z.1 in
-          let head : Takes at text (length front ∷ []) n.0.1 n.0.2 = rw c.1 b.0 in
-          let whole = Takes-then at text (length front ∷ []) n.0.1 n.0.2 (front ++ 0 ∷ []) z.0.1 z.0.2 head c.0 in
-          let short : length front ≤ 255 = omega (arith, c.1, b.1) in
-          let spelt = one_type_spelt n.0.1 front k.0.0 k.0.1 k.0.2 k.1 (eqb-true (length k.0.2) 0 p.0) short in
-          subst (λ (y : (Kind × List ℕ) × ℕ × List ℕ). Takes at text (signature_spelling y.0.1) y.1 y.2 × SpellsType y.0.1 y.0.0) (ok_is ((k.0.0, front), z.0.1, z.0.2) x z.2) (whole, spelt)
+          let whole = closed_takes (k.0.0, c.0.0.1) at text c.0 x t p.1 in
+          subst (λ (y : Kind × List ℕ). Takes at text (signature_spelling y.1) x.1 x.2 × SpellsType y.1 y.0) whole.1
+          (whole.0, one_type_spelt c.0.0.0 c.0.0.1 k.0.0 k.0.1 k.0.2 k.1 (eqb-true (length k.0.2) 0 p.0) (omega (arith, t.short, t.below)))
     ]

@@ -14,8 +14,9 @@ use Rattle.dbus_signature.proofs.KindLaws.{by_kind}
 use Rattle.dbus_wire.specs.declared.value.Endian.{Endian}
 use Rattle.dbus_wire.specs.declared.value.Value.{Value}
 use Rattle.dbus_wire.specs.declared.value.Value.TheVariants as value
-use Rattle.dbus_wire.specs.Values.{as_value, alignment, max_array, items_at, contents_at, array_at, members_at, struct_at, variant_at, pair_at, value_by, closed_value_by, value_at, entry_at}
-use Rattle.dbus_wire.specs.Spelling.{spelling, spellings, padding, to_bytes, signature_spelling, element_alignment, behind_padding, counted, array_spelling}
+use Rattle.dbus_wire.specs.Values.{as_value, max_array, items_at, contents_at, array_at, members_at, struct_at, variant_at, pair_at, value_by, closed_value_by, value_at, entry_at}
+use Rattle.dbus_wire.specs.Alignment.{alignment, element_alignment}
+use Rattle.dbus_wire.specs.Spelling.{spelling, spellings, padding, to_bytes, signature_spelling, behind_padding, counted, array_spelling}
 use Rattle.dbus_wire.specs.Fits.{Said, Each, Members, IsArray, IsOpen, IsClosed, IsPair, Fits, FitsEntry}
 use Rattle.dbus_wire.proofs.Again.{found, moved_to, wide32, padding_again, number_again, type_again}
 use Rattle.dbus_wire.proofs.BasicAgain.{Again, basic_again}
@@ -29,12 +30,12 @@ pub record Reads (e : Endian) (said : Said) (reader : Reader Value) : Type 0 whe
 
 -- ---- items
 
-items_step : (item : Reader Value) (n at : ℕ) (text : List ℕ) → 0 < length text → items_at item (suc n) at text ≡ (item at text >>= λ first. items_at item n first.1 first.2 >>= λ others. Ok (first.0 ∷ others.0, others.1, others.2))
+pub items_step : (item : Reader Value) (n at : ℕ) (text : List ℕ) → 0 < length text → items_at item (suc n) at text ≡ (item at text >>= λ first. items_at item n first.1 first.2 >>= λ others. Ok (first.0 ∷ others.0, others.1, others.2))
 unfolding items_at
 items_step item n at [] some = absurd (omega arith)
 items_step item n at (c ∷ text) some = refl
 
-items_again : (e : Endian) (item : Reader Value) (said : Said) → Reads e said item → (vs : List Value) (n at : ℕ) → length vs ≤ n → Each e said vs at → items_at item n at (spellings e vs at) ≡ found vs (at + length (spellings e vs at)) []
+pub items_again : (e : Endian) (item : Reader Value) (said : Said) → Reads e said item → (vs : List Value) (n at : ℕ) → length vs ≤ n → Each e said vs at → items_at item n at (spellings e vs at) ≡ found vs (at + length (spellings e vs at)) []
 unfolding items_at
 items_again e item said reads [] zero at enough each = moved_to [] at (at + 0) [] (omega arith)
 items_again e item said reads [] (suc n) at enough each = moved_to [] at (at + 0) [] (omega arith)
@@ -48,7 +49,7 @@ items_again e item said reads (v ∷ vs) (suc n) at enough each =
     ∙ rw (reads.again at v each.0 others, items_again e item said reads vs n here (omega arith) each.1)
     (moved_to (v ∷ vs) _ _ [] (omega (arith, length-append first others)))
 
-each_count : (e : Endian) (item : Reader Value) (said : Said) → Reads e said item → (vs : List Value) (at : ℕ) → Each e said vs at → length vs ≤ length (spellings e vs at)
+pub each_count : (e : Endian) (item : Reader Value) (said : Said) → Reads e said item → (vs : List Value) (at : ℕ) → Each e said vs at → length vs ≤ length (spellings e vs at)
 each_count e item said reads [] at each = omega arith
 each_count e item said reads (v ∷ vs) at each =
     let first = spelling e v at in
@@ -215,11 +216,11 @@ closed_some e = by_kind (λ kind. (at : ℕ) (v : Value) → IsClosed (out-Kind 
 
 -- ---- whole values
 
-record AllRead (e : Endian) (room : ℕ) : Type 0 where
-  values : (k : Kind) → Reads e (Fits e room k) (value_at e room k)
-  entries : (b : Basic) (k : Kind) → Reads e (FitsEntry e room b k) (entry_at e room b k)
+pub record AllRead (e : Endian) (room : ℕ) : Type 0 where
+  pub values : (k : Kind) → Reads e (Fits e room k) (value_at e room k)
+  pub entries : (b : Basic) (k : Kind) → Reads e (FitsEntry e room b k) (entry_at e room b k)
 
-all_read : (e : Endian) (room : ℕ) → AllRead e room
+pub all_read : (e : Endian) (room : ℕ) → AllRead e room
 unfolding Fits value_at
 all_read e zero = record {
   values = λ k. record { again = λ at v is. closed e k at v is; some = λ at v is. closed_some e k at v is };

@@ -18,9 +18,10 @@ use Rattle.dbus_signature.proofs.Sound.{bind_ok, ok_is, not_ok, chosen, Takes, T
 use Rattle.dbus_wire.specs.declared.value.Endian.{Endian}
 use Rattle.dbus_wire.specs.declared.value.Value.{Value}
 use Rattle.dbus_wire.specs.declared.value.Value.TheVariants as value
-use Rattle.dbus_wire.specs.Values.{as_value, basic_value_at, alignment, max_array, items_at, whole_items, contents_at, within_limit, array_at, members_at, struct_at, variant_at, pair_at, value_by, closed_value_by, value_at, entry_at}
+use Rattle.dbus_wire.specs.Values.{as_value, basic_value_at, max_array, items_at, whole_items, contents_at, within_limit, array_at, members_at, struct_at, variant_at, pair_at, value_by, closed_value_by, value_at, entry_at}
+use Rattle.dbus_wire.specs.Alignment.{alignment, element_alignment}
 use Rattle.dbus_wire.specs.Fields.{number_at, padding_at, type_at}
-use Rattle.dbus_wire.specs.Spelling.{spelling, spellings, padding, to_bytes, signature_spelling, element_alignment, counted, array_spelling}
+use Rattle.dbus_wire.specs.Spelling.{spelling, spellings, padding, to_bytes, signature_spelling, counted, array_spelling}
 use Rattle.dbus_wire.specs.Fits.{Said, Each, Members, IsArray, IsOpen, IsClosed, IsPair, Fits, FitsEntry}
 use Rattle.dbus_wire.proofs.Took.{IsBytes, bytes_rest, bytes_take, exact32, padding_takes, number_takes, type_takes}
 use Rattle.dbus_wire.proofs.BasicTook.{Took, took_made, basic_took}
@@ -36,7 +37,7 @@ Honest e said reader = (at : ℕ) (text : List ℕ) (x : Value × ℕ × List �
 abbrev TookAll : Endian → Said → ℕ → List ℕ → List Value × ℕ × List ℕ → Type 0
 TookAll e said at text x = Takes at text (spellings e x.0 at) x.1 x.2 × Each e said x.0 at
 
-items_took : (e : Endian) (item : Reader Value) (said : Said) → Honest e said item → (n at : ℕ) (text : List ℕ) (x : List Value × ℕ × List ℕ) → IsBytes text → items_at item n at text ≡ Ok x → TookAll e said at text x × (x.2 ≡ [])
+pub items_took : (e : Endian) (item : Reader Value) (said : Said) → Honest e said item → (n at : ℕ) (text : List ℕ) (x : List Value × ℕ × List ℕ) → IsBytes text → items_at item n at text ≡ Ok x → TookAll e said at text x × (x.2 ≡ [])
 unfolding items_at
 items_took e item said honest zero at [] x fits h =
     subst (λ (y : List Value × ℕ × List ℕ). TookAll e said at [] y × (y.2 ≡ [])) (ok_is ([], at, []) x h) ((record { parts = refl; moved = omega arith }, tt), refl)
@@ -71,7 +72,7 @@ contents_took e item said honest n at text x fits h =
           ((record { parts = sym (take-append-drop n text) ∙ ap (λ (l : List ℕ). l ++ drop n text) spelt; moved = ap (λ (l : List ℕ). at + length l) spelt }, t.0.1), size)
     ]
 
-limit_is : (place : ℕ) (n m : ℕ × ℕ × List ℕ) → within_limit place n ≡ Ok m → (n ≡ m) × (n.0 ≤ max_array)
+pub limit_is : (place : ℕ) (n m : ℕ × ℕ × List ℕ) → within_limit place n ≡ Ok m → (n ≡ m) × (n.0 ≤ max_array)
 limit_is place n m h =
     elim (chosen (ltb max_array n.0) (Err place) (Ok n) (Ok m) h) [
       | inl p ↦ absurd (not_ok place m p.1)
@@ -220,11 +221,11 @@ closed_took e = by_kind (λ kind. Honest e (λ at v. IsClosed (out-Kind kind) v)
 
 -- ---- whole values
 
-record AllHonest (e : Endian) (room : ℕ) : Type 0 where
-  values : (k : Kind) → IsKind k → Honest e (Fits e room k) (value_at e room k)
-  entries : (b : Basic) (k : Kind) → IsKind k → Honest e (FitsEntry e room b k) (entry_at e room b k)
+pub record AllHonest (e : Endian) (room : ℕ) : Type 0 where
+  pub values : (k : Kind) → IsKind k → Honest e (Fits e room k) (value_at e room k)
+  pub entries : (b : Basic) (k : Kind) → IsKind k → Honest e (FitsEntry e room b k) (entry_at e room b k)
 
-all_honest : (e : Endian) (room : ℕ) → AllHonest e room
+pub all_honest : (e : Endian) (room : ℕ) → AllHonest e room
 unfolding Fits value_at
 all_honest e zero = record {
   values = λ k is. closed_took e k;

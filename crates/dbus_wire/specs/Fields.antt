@@ -65,21 +65,29 @@ text_at is_valid endian at text = do
   n ← aligned_at endian w32 at text
   ended_at is_valid n.0 n.1 n.2
 
+-- The codes of a signature behind their length, as many as are there: their offset and they, and what stands behind.
+unfoldable pub codes_at : Reader (ℕ × List ℕ)
+codes_at at text = do
+  n ← byte_at at text
+  Ok ((n.1, take n.0 n.2), n.1 + length (take n.0 n.2), drop n.0 n.2)
+
+-- behind the NUL that closes it
+abbrev pub closed_at : {A : Type 0} → A → Reader A
+closed_at x at text = zeros_at 1 at text >>= λ nul. Ok (x, nul.1, nul.2)
+
 -- A signature is its length, its codes and its closing NUL. Where it is cut short, the byte that is missing is at fault.
 unfoldable pub signature_at : Reader (List ℕ)
 signature_at at text = do
-  n ← byte_at at text
-  kinds ← kinds_at (length (take n.0 n.2)) n.1 (take n.0 n.2)
-  nul ← zeros_at 1 (n.1 + length (take n.0 n.2)) (drop n.0 n.2)
-  Ok (take n.0 n.2, nul.1, nul.2)
+  codes ← codes_at at text
+  kinds ← kinds_at (length codes.0.1) codes.0.0 codes.0.1
+  closed_at codes.0.1 codes.1 codes.2
 
 -- A signature of one complete type, which is given with it. The first code of a second type is at fault.
-abbrev pub one_type_of : ℕ → List ℕ → List ℕ → Kind × ℕ × List ℕ → Read (Kind × List ℕ)
-one_type_of end codes after kind =
-    if length kind.2 == 0 then (zeros_at 1 end after >>= λ nul. Ok ((kind.0, codes), nul.1, nul.2)) else Err kind.1
+abbrev pub one_type_of : List ℕ → ℕ → List ℕ → Kind × ℕ × List ℕ → Read (Kind × List ℕ)
+one_type_of codes end after kind = if length kind.2 == 0 then closed_at (kind.0, codes) end after else Err kind.1
 
 unfoldable pub type_at : Reader (Kind × List ℕ)
 type_at at text = do
-  n ← byte_at at text
-  kind ← kind_at 32 32 n.1 (take n.0 n.2)
-  one_type_of (n.1 + length (take n.0 n.2)) (take n.0 n.2) (drop n.0 n.2) kind
+  codes ← codes_at at text
+  kind ← kind_at 32 32 codes.0.0 codes.0.1
+  one_type_of codes.0.1 codes.1 codes.2 kind

@@ -14,7 +14,8 @@ use Rattle.dbus_wire.specs.declared.value.Value.{Value}
 use Rattle.dbus_wire.specs.declared.value.Value.TheVariants as value
 use Rattle.dbus_wire.specs.declared.strings.StringKind.TheVariants as string
 use Rattle.dbus_wire.specs.Texts.{is_string}
-use Rattle.dbus_wire.specs.Values.{max_array, max_open, alignment}
+use Rattle.dbus_wire.specs.Values.{max_array, max_open}
+use Rattle.dbus_wire.specs.Alignment.{alignment}
 use Rattle.dbus_wire.specs.Spelling.{padding, signature_spelling, spelling, spellings}
 
 -- a number of a type that is below a limit
@@ -24,7 +25,7 @@ IsNumber make limit v = (n : ℕ) × (v ≡ make n) × (n < limit)
 abbrev pub IsString : (List ℕ → Value) → (List ℕ → Bool) → Value → Type 0
 IsString make is_valid v = (text : List ℕ) × (v ≡ make text) × (is_valid text ≡ true) × (length text < 2 ^ 32)
 
--- a value of a basic type; a signed number is the one that its bits stand for
+-- a value of a basic type ("Basic types"); a signed number is the one that its bits stand for
 abbrev pub IsBasic : Basic → Value → Type 0
 IsBasic basic.Byte v = IsNumber value.Byte (2 ^ 8) v
 IsBasic basic.Bool v = (truth : Bool) × (v ≡ value.Bool truth)
@@ -49,14 +50,14 @@ abbrev pub Each : Endian → Said → List Value → ℕ → Type 0
 Each endian said [] at = Unit {0}
 Each endian said (v ∷ vs) at = said at v × Each endian said vs (at + length (spelling endian v at))
 
--- each member of a struct, of its type
+-- each member of a struct, of its type ("Container types")
 abbrev pub Members : Endian → (Kind → Said) → List Kind → List Value → ℕ → Type 0
 Members endian said [] [] at = Unit {0}
 Members endian said [] (v ∷ vs) at = ⊥
 Members endian said (kind ∷ kinds) [] at = ⊥
 Members endian said (kind ∷ kinds) (v ∷ vs) at = said kind at v × Members endian said kinds vs (at + length (spelling endian v at))
 
--- an array: its items, each of which fits, and whose spellings have no more bytes than an array may have
+-- an array ("Marshalling containers", ARRAY; 2^26 bytes at most): its items, each of which fits, and whose spellings have no more bytes than an array may have
 abbrev pub IsArray : Endian → ℕ → Said → Kind → ℕ → Value → Type 0
 IsArray endian align said kind at v =
     let length_at = at + length (padding 4 at) in
@@ -78,14 +79,15 @@ abbrev pub IsClosed : Kind-F Kind → Value → Type 0
 IsClosed (Kind-F.Basic basic) v = IsBasic basic v
 IsClosed layer v = ⊥
 
--- an entry of a dict: a key and a value
+-- an entry of a dict: a key and a value ("Container types", DICT_ENTRY)
 abbrev pub IsPair : Endian → Basic → Said → ℕ → Value → Type 0
 IsPair endian key said at v =
     (first : Value) × (second : Value) × (v ≡ value.Pair first second) × IsBasic key first
     × said (at + length (padding 8 at) + length (spelling endian first (at + length (padding 8 at)))) second
 
 unfoldable mutual
-  -- The value has a spelling as this type at this offset, where so many containers may still be opened.
+  -- The value has a spelling as this type at this offset, where so many containers may still be opened ("Message Format",
+  -- the limit of 64).
   pub Fits : Endian → ℕ → Kind → ℕ → Value → Type 0
   Fits endian zero kind at v = IsClosed (out-Kind kind) v
   Fits endian (suc room) kind at v = IsOpen endian (Fits endian room) (FitsEntry endian room) kind (out-Kind kind) at v
@@ -93,6 +95,11 @@ unfoldable mutual
   pub FitsEntry : Endian → ℕ → Basic → Kind → ℕ → Value → Type 0
   FitsEntry endian zero key kind at v = ⊥
   FitsEntry endian (suc room) key kind at v = IsPair endian key (Fits endian room kind) at v
+
+-- The value has a spelling at this offset, as some type.
+pub record HasSpelling (endian : Endian) (at : ℕ) (v : Value) : Type 0 where
+  pub kind : Kind
+  pub fits : Fits endian max_open kind at v
 
 -- Bytes spell a value of a type at an offset: it has a spelling there, and they are it.
 pub record Spells (endian : Endian) (kind : Kind) (at : ℕ) (bytes : List ℕ) (v : Value) : Type 0 where
@@ -106,3 +113,8 @@ pub record SpeltThere (endian : Endian) (kind : Kind) (offset : ℕ) (bytes : Li
   pub split : drop offset bytes ≡ text ++ after
   pub end : found.1 ≡ offset + length text
   pub spells : Spells endian kind offset text found.0
+
+-- A value that was read there is written again as the same bytes, of which there is one at least.
+pub record WrittenAgain (endian : Endian) (offset : ℕ) (bytes : List ℕ) (found : Value × ℕ) : Type 0 where
+  pub same : drop offset bytes ≡ spelling endian found.0 offset ++ drop found.1 bytes
+  pub some : offset < found.1

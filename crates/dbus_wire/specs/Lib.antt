@@ -1,7 +1,10 @@
 pub mod Texts
 pub mod Fields
 pub mod Seen
+pub mod Alignment
 pub mod Values
 pub mod Elements
 pub mod Spelling
 pub mod Fits
+pub mod Appending
+pub mod Faults

@@ -1,6 +1,6 @@
 -- How values are spelt (D-Bus Specification, "Marshaling (Wire Format)"). A value's spelling depends on the offset at
 -- which it begins, since padding aligns it, and on the order of bytes.
-use Rattle.std.specs.Prelude.{ℕ, ◌+◌, ◌==◌, ◌||◌, Bool, true, false, List, [], ◌∷◌, ◌++◌, length, map, replicate, if◌then◌else◌}
+use Rattle.std.specs.Prelude.{ℕ, ◌+◌, Bool, true, false, List, [], ◌∷◌, ◌++◌, length, map, replicate}
 use Rattle.std.specs.Int.{Width, w16, w32, w64, byte_len, to_le_bytes, to_be_bytes, cast_unsigned}
 use Rattle.dbus_wire.specs.declared.value.Endian.{Endian}
 use Rattle.dbus_wire.specs.declared.value.Endian.TheVariants.{Little, Big}
@@ -8,8 +8,9 @@ use Rattle.dbus_wire.specs.declared.value.Value.{Value}
 use Rattle.dbus_wire.specs.declared.value.Value.TheOpen.{Value-F}
 use Rattle.dbus_wire.specs.declared.value.Value.TheFolds.{fold-Value}
 use Rattle.dbus_wire.specs.Fields.{gap}
+use Rattle.dbus_wire.specs.Alignment.{element_alignment}
 
--- zeros up to the next multiple of an alignment
+-- zeros up to the next multiple of an alignment ("Byte order and alignment")
 abbrev pub padding : (align at : ℕ) → List ℕ
 padding align at = replicate (gap align at) 0
 
@@ -17,7 +18,7 @@ abbrev pub to_bytes : Endian → Width → ℕ → List ℕ
 to_bytes Little width n = to_le_bytes width n
 to_bytes Big width n = to_be_bytes width n
 
--- a number behind its padding
+-- a number behind its padding ("Marshalling basic types")
 abbrev pub aligned : Endian → Width → ℕ → ℕ → List ℕ
 aligned endian width n at = padding (byte_len width) at ++ to_bytes endian width n
 
@@ -25,10 +26,11 @@ abbrev pub bit : Bool → ℕ
 bit false = 0
 bit true = 1
 
--- a length, the text and a NUL
+-- a length, the text and a NUL ("Marshalling basic types", STRING and OBJECT_PATH)
 abbrev pub text_spelling : Endian → List ℕ → ℕ → List ℕ
 text_spelling endian text at = aligned endian w32 (length text) at ++ (text ++ 0 ∷ [])
 
+-- a length of one byte, the codes and a NUL ("Marshalling basic types", SIGNATURE)
 abbrev pub signature_spelling : List ℕ → List ℕ
 signature_spelling codes = length codes ∷ codes ++ 0 ∷ []
 
@@ -41,20 +43,8 @@ in_row (first ∷ others) at = first at ++ in_row others (at + length (first at)
 abbrev pub behind_padding : ℕ → (ℕ → List ℕ) → ℕ → List ℕ
 behind_padding align inner at = padding align at ++ inner (at + length (padding align at))
 
--- what values begin at a multiple of, by the first letter of their type
-abbrev pub letter_alignment : ℕ → ℕ
-letter_alignment letter =
-    if letter == 121 || letter == 103 || letter == 118 then 1
-    else (if letter == 110 || letter == 113 then 2
-    else (if letter == 120 || letter == 116 || letter == 100 || letter == 40 || letter == 123 then 8 else 4))
-
--- The alignment of the elements of an array, by its type, whose second letter is the first of theirs.
-abbrev pub element_alignment : List ℕ → ℕ
-element_alignment [] = 1
-element_alignment (a ∷ []) = 1
-element_alignment (a ∷ letter ∷ codes) = letter_alignment letter
-
 -- the length in bytes of the contents, and the contents behind their padding, which the length leaves out
+-- ("Marshalling containers", ARRAY)
 abbrev pub counted : Endian → ℕ → (ℕ → List ℕ) → ℕ → List ℕ
 counted endian align contents at =
     to_bytes endian w32 (length (contents (at + 4 + length (padding align (at + 4))))) ++ behind_padding align contents (at + 4)
@@ -62,7 +52,8 @@ counted endian align contents at =
 abbrev pub array_spelling : Endian → ℕ → (ℕ → List ℕ) → ℕ → List ℕ
 array_spelling endian align contents = behind_padding 4 (counted endian align contents)
 
--- one level of a value, with the spelling of each value in it
+-- one level of a value, with the spelling of each value in it ("Marshalling basic types"; "Marshalling containers" for
+-- ARRAY, STRUCT, DICT_ENTRY and VARIANT)
 abbrev pub spelling_step : Endian → Value-F (ℕ → List ℕ) → ℕ → List ℕ
 spelling_step endian (Value-F.Byte n) at = n ∷ []
 spelling_step endian (Value-F.Bool truth) at = aligned endian w32 (bit truth) at

@@ -13,6 +13,7 @@ use Rattle.dbus_wire.specs.declared.value.Endian.{Endian}
 use Rattle.dbus_wire.specs.declared.value.Value.{Value}
 use Rattle.dbus_wire.specs.declared.value.Value.TheVariants as value
 use Rattle.dbus_wire.specs.declared.strings.StringKind.TheVariants as string
+use Rattle.dbus_wire.specs.Alignment.{alignment}
 use Rattle.dbus_wire.specs.Texts.{is_string}
 use Rattle.dbus_wire.specs.Fields.{aligned_at, bool_at, byte_at, number_at, padding_at, signature_at, text_at, type_at}
 
@@ -43,32 +44,6 @@ basic_value_at endian basic.Str at text = as_value value.Str (text_at (is_string
 basic_value_at endian basic.Path at text = as_value value.Path (text_at (is_string string.Path) endian at text)
 basic_value_at endian basic.Sig at text = as_value value.Sig (signature_at at text)
 basic_value_at endian basic.Fd at text = as_value value.Fd (aligned_at endian w32 at text)
-
-abbrev pub basic_alignment : Basic → ℕ
-basic_alignment basic.Byte = 1
-basic_alignment basic.Bool = 4
-basic_alignment basic.I16 = 2
-basic_alignment basic.U16 = 2
-basic_alignment basic.I32 = 4
-basic_alignment basic.U32 = 4
-basic_alignment basic.I64 = 8
-basic_alignment basic.U64 = 8
-basic_alignment basic.Double = 8
-basic_alignment basic.Str = 4
-basic_alignment basic.Path = 4
-basic_alignment basic.Sig = 1
-basic_alignment basic.Fd = 4
-
-abbrev pub layer_alignment : Kind-F Kind → ℕ
-layer_alignment (Kind-F.Basic basic) = basic_alignment basic
-layer_alignment Kind-F.Variant = 1
-layer_alignment (Kind-F.Array element) = 4
-layer_alignment (Kind-F.Dict key entry) = 4
-layer_alignment (Kind-F.Struct members) = 8
-
--- what a type's values begin at a multiple of
-abbrev pub alignment : Kind → ℕ
-alignment kind = layer_alignment (out-Kind kind)
 
 -- Items in a row, up to the end of the text. The number is at least that of the bytes left.
 unfoldable pub items_at : Reader Value → ℕ → Reader (List Value)
@@ -163,3 +138,7 @@ closed_value_at endian kind = closed_value_by endian (out-Kind kind)
 -- The value at an offset in bytes, and the offset after it; or the place of the fault.
 abbrev pub value_of : Endian → Kind → ℕ → List ℕ → Result (Value × ℕ) ℕ
 value_of endian kind offset bytes = value_at endian max_open kind offset (drop offset bytes) >>= λ found. Ok (found.0, found.1)
+
+-- The values of types one after the other at an offset in bytes, and the offset after them; or the place of the fault.
+abbrev pub values_of : Endian → List Kind → ℕ → List ℕ → Result (List Value × ℕ) ℕ
+values_of endian kinds offset bytes = members_at (value_at endian max_open) kinds offset (drop offset bytes) >>= λ found. Ok (found.0, found.1)

@@ -1,14 +1,14 @@
 //! Reads values that hold no others.
 
-ghost use Rattle.std.specs.Prelude.{◌≡◌, ◌<◌, length};
+ghost use Rattle.std.specs.Prelude.{◌≡◌};
 ghost use Rattle.dbus_signature.specs.Cursors.{read_at, seen};
 ghost use Rattle.dbus_signature.specs.Reading.{Gives};
-ghost use Rattle.dbus_wire.specs.Values.{alignment, basic_alignment, basic_value_at};
+ghost use Rattle.dbus_wire.specs.Values.{basic_value_at};
 
 use crate::fields::{bool_at, byte_at, u16_at, u32_at, u64_at};
 use crate::strings::{StringKind, signature_at, string_at};
 use crate::value::{Endian, Value};
-use dbus_signature::{Basic, Cursor, Kind, WireError};
+use dbus_signature::{Basic, Cursor, WireError};
 use std::alloc::Global;
 
 /// A value that holds no others.
@@ -73,29 +73,5 @@ pub fn basic_value_at(
             let (number, after) = u32_at(endian, from)?;
             Ok((Value::Fd(number), after))
         }
-    }
-}
-
-fn basic_alignment(basic: Basic) -> usize
-    ensures { result ≡ basic_alignment basic }
-{
-    match basic {
-        Basic::Byte | Basic::Sig => 1,
-        Basic::I16 | Basic::U16 => 2,
-        Basic::I64 | Basic::U64 | Basic::Double => 8,
-        _ => 4,
-    }
-}
-
-/// What a type's values begin at a multiple of.
-pub fn alignment(kind: &Kind) -> usize
-    ensures exact { result ≡ alignment kind.now }
-    ensures some { 0 < result }
-{
-    match kind {
-        Kind::Basic(basic) => basic_alignment(*basic),
-        Kind::Variant => 1,
-        Kind::Array(_) | Kind::Dict(_, _) => 4,
-        Kind::Struct(_) => 8,
     }
 }

@@ -1,6 +1,6 @@
 //! Reads padding, numbers, texts and signatures.
 
-ghost use Rattle.std.specs.Prelude.{◌≡◌, ◌<◌, ◌+◌, length, IfOk};
+ghost use Rattle.std.specs.Prelude.{◌≡◌, ◌<◌, ◌≤◌, ◌+◌, length, take, drop, MatchOption};
 ghost use Rattle.std.specs.Int.{w16, w32, w64};
 ghost use Rattle.dbus_signature.specs.Cursors.{read_at, seen};
 ghost use Rattle.dbus_signature.specs.Reading.{Gives};
@@ -44,24 +44,31 @@ pub fn padding_at(align: usize, from: Cursor<'_>) -> Result<((), Cursor<'_>), Wi
     zeros_at(gap(align, from.at), from)
 }
 
+/// So many bytes, and the cursor behind them; None where fewer are there.
+fn chunk_at<const N: usize>(from: Cursor<'_>) -> Option<(&[u8; N], Cursor<'_>)>
+    ensures { MatchOption result (length from.entry.rest.now < N) (λ found. (N ≤ length from.entry.rest.now)
+        × (found.0.now ≡ take N from.entry.rest.now) × (found.1.at ≡ from.entry.at + N) × (found.1.rest.now ≡ drop N from.entry.rest.now)) }
+{
+    let (front, rest) = from.rest.split_first_chunk::<N>()?;
+    let after = Cursor {
+        at: from.at + N,
+        rest,
+    };
+    Some((front, after))
+}
+
 /// A number of two bytes behind its padding.
 #[tactic(auto, unfolding(crate::specs::Fields::aligned_at))]
 pub fn u16_at(endian: Endian, from: Cursor<'_>) -> Result<(u16, Cursor<'_>), WireError>
     ensures { Gives seen result (read_at (aligned_at endian w16) from.entry) }
 {
     let ((), start) = padding_at(2, from)?;
-    if start.rest.len() < 2 {
+    let Some((bytes, after)) = chunk_at::<2>(start) else {
         return Err(WireError::Bad(start.at));
-    }
-    let (front, rest) = start.rest.split_at(2);
-    let bytes = [front[0], front[1]];
-    let number = match endian {
-        Endian::Little => u16::from_le_bytes(bytes),
-        Endian::Big => u16::from_be_bytes(bytes),
     };
-    let after = Cursor {
-        at: start.at + 2,
-        rest,
+    let number = match endian {
+        Endian::Little => u16::from_le_bytes(*bytes),
+        Endian::Big => u16::from_be_bytes(*bytes),
     };
     Ok((number, after))
 }
@@ -79,18 +86,12 @@ pub fn u32_at(endian: Endian, from: Cursor<'_>) -> Result<(u32, Cursor<'_>), Wir
 pub fn plain_u32_at(endian: Endian, from: Cursor<'_>) -> Result<(u32, Cursor<'_>), WireError>
     ensures { Gives seen result (read_at (number_at endian w32) from.entry) }
 {
-    if from.rest.len() < 4 {
+    let Some((bytes, after)) = chunk_at::<4>(from) else {
         return Err(WireError::Bad(from.at));
-    }
-    let (front, rest) = from.rest.split_at(4);
-    let bytes = [front[0], front[1], front[2], front[3]];
-    let number = match endian {
-        Endian::Little => u32::from_le_bytes(bytes),
-        Endian::Big => u32::from_be_bytes(bytes),
     };
-    let after = Cursor {
-        at: from.at + 4,
-        rest,
+    let number = match endian {
+        Endian::Little => u32::from_le_bytes(*bytes),
+        Endian::Big => u32::from_be_bytes(*bytes),
     };
     Ok((number, after))
 }
@@ -101,20 +102,12 @@ pub fn u64_at(endian: Endian, from: Cursor<'_>) -> Result<(u64, Cursor<'_>), Wir
     ensures { Gives seen result (read_at (aligned_at endian w64) from.entry) }
 {
     let ((), start) = padding_at(8, from)?;
-    if start.rest.len() < 8 {
+    let Some((bytes, after)) = chunk_at::<8>(start) else {
         return Err(WireError::Bad(start.at));
-    }
-    let (front, rest) = start.rest.split_at(8);
-    let bytes = [
-        front[0], front[1], front[2], front[3], front[4], front[5], front[6], front[7],
-    ];
-    let number = match endian {
-        Endian::Little => u64::from_le_bytes(bytes),
-        Endian::Big => u64::from_be_bytes(bytes),
     };
-    let after = Cursor {
-        at: start.at + 8,
-        rest,
+    let number = match endian {
+        Endian::Little => u64::from_le_bytes(*bytes),
+        Endian::Big => u64::from_be_bytes(*bytes),
     };
     Ok((number, after))
 }

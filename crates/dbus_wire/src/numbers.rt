@@ -1,35 +1,50 @@
-//! Writes padding, numbers, texts and signatures.
+//! Writes padding, numbers, texts and signatures. What is refused for want of memory leaves the old bytes in front.
 
-ghost use Rattle.std.specs.Prelude.{◌≡◌, ◌<◌, ◌≤◌, ◌+◌, ◌^◌, ◌++◌, ◌∷◌, length, OnOk, List, ℕ};
+ghost use Rattle.std.specs.Prelude.{◌≡◌, ◌<◌, ◌≤◌, ◌+◌, ◌^◌, ◌++◌, ◌∷◌, length, OnOk, OnErr, List, ℕ};
 ghost use Rattle.std.specs.Int.{w16, w32, w64};
+ghost use Rattle.dbus_wire.specs.Appending.{Keeps};
 ghost use Rattle.dbus_wire.specs.Spelling.{aligned, padding, signature_spelling, text_spelling, to_bytes};
 
 use crate::fields::gap;
-use crate::value::{Endian, Value};
+use crate::value::Endian;
 use fw_base::Memory;
 
-/// Zeros up to the next multiple of an alignment.
+/// Zeros up to the next multiple of an alignment, which is 8 at most.
+#[tactic(auto, using(crate::proofs::KeepsLaws::keeping))]
 pub fn push_padding(out: &mut Vec<u8>, align: usize) -> Result<(), Memory>
-    requires { 0 < align }
-    ensures { OnOk result (out.new.items ≡ out.old.items ++ padding align (length out.old.items)) }
+    requires some { 0 < align }
+    requires short { align ≤ 8 }
+    ensures ok { OnOk result (out.new.items ≡ out.old.items ++ padding align (length out.old.items)) }
+    ensures err { OnErr result (Keeps out.old.items out.new.items) }
 {
-    for _ in 0..gap(align, out.len()) {
-        out.push(0)?;
-    }
+    let zeros = [0; 8];
+    out.extend_from_slice(&zeros[..gap(align, out.len())])?;
+    Ok(())
+}
+
+/// The bytes of a number behind padding to their count.
+#[tactic(auto, using(crate::proofs::KeepsLaws::keeping))]
+fn push_aligned(out: &mut Vec<u8>, bytes: &[u8]) -> Result<(), Memory>
+    requires some { 0 < length bytes.now }
+    requires short { length bytes.now ≤ 8 }
+    ensures ok { OnOk result (out.new.items ≡ out.old.items ++ (padding (length bytes.now) (length out.old.items) ++ bytes.now)) }
+    ensures err { OnErr result (Keeps out.old.items out.new.items) }
+{
+    push_padding(out, bytes.len())?;
+    out.extend_from_slice(bytes)?;
     Ok(())
 }
 
 /// A number of two bytes behind its padding.
 pub fn push_u16(out: &mut Vec<u8>, endian: Endian, number: u16) -> Result<(), Memory>
-    ensures { OnOk result (out.new.items ≡ out.old.items ++ aligned endian w16 number (length out.old.items)) }
+    ensures ok { OnOk result (out.new.items ≡ out.old.items ++ aligned endian w16 number (length out.old.items)) }
+    ensures err { OnErr result (Keeps out.old.items out.new.items) }
 {
-    push_padding(out, 2)?;
     let bytes = match endian {
         Endian::Little => number.to_le_bytes(),
         Endian::Big => number.to_be_bytes(),
     };
-    out.extend_from_slice(&bytes)?;
-    Ok(())
+    push_aligned(out, &bytes)
 }
 
 pub fn u32_bytes(endian: Endian, number: u32) -> [u8; 4]
@@ -43,30 +58,30 @@ pub fn u32_bytes(endian: Endian, number: u32) -> [u8; 4]
 
 /// A number of four bytes behind its padding.
 pub fn push_u32(out: &mut Vec<u8>, endian: Endian, number: u32) -> Result<(), Memory>
-    ensures { OnOk result (out.new.items ≡ out.old.items ++ aligned endian w32 number (length out.old.items)) }
+    ensures ok { OnOk result (out.new.items ≡ out.old.items ++ aligned endian w32 number (length out.old.items)) }
+    ensures err { OnErr result (Keeps out.old.items out.new.items) }
 {
-    push_padding(out, 4)?;
-    out.extend_from_slice(&u32_bytes(endian, number))?;
-    Ok(())
+    push_aligned(out, &u32_bytes(endian, number))
 }
 
 /// A number of eight bytes behind its padding.
 pub fn push_u64(out: &mut Vec<u8>, endian: Endian, number: u64) -> Result<(), Memory>
-    ensures { OnOk result (out.new.items ≡ out.old.items ++ aligned endian w64 number (length out.old.items)) }
+    ensures ok { OnOk result (out.new.items ≡ out.old.items ++ aligned endian w64 number (length out.old.items)) }
+    ensures err { OnErr result (Keeps out.old.items out.new.items) }
 {
-    push_padding(out, 8)?;
     let bytes = match endian {
         Endian::Little => number.to_le_bytes(),
         Endian::Big => number.to_be_bytes(),
     };
-    out.extend_from_slice(&bytes)?;
-    Ok(())
+    push_aligned(out, &bytes)
 }
 
 /// A length, a text and a NUL.
+#[tactic(auto, using(crate::proofs::KeepsLaws::keeping))]
 pub fn push_text(out: &mut Vec<u8>, endian: Endian, text: &str) -> Result<(), Memory>
     requires { length text.now < 2 ^ 32 }
-    ensures { OnOk result (out.new.items ≡ out.old.items ++ text_spelling endian text.now (length out.old.items)) }
+    ensures ok { OnOk result (out.new.items ≡ out.old.items ++ text_spelling endian text.now (length out.old.items)) }
+    ensures err { OnErr result (Keeps out.old.items out.new.items) }
 {
     push_u32(out, endian, text.len() as u32)?;
     out.extend_from_slice(text.as_bytes())?;
@@ -75,9 +90,11 @@ pub fn push_text(out: &mut Vec<u8>, endian: Endian, text: &str) -> Result<(), Me
 }
 
 /// A length, the codes of a signature and a NUL.
+#[tactic(auto, using(crate::proofs::KeepsLaws::keeping))]
 pub fn push_signature(out: &mut Vec<u8>, codes: &[u8]) -> Result<(), Memory>
     requires { length codes.now < 2 ^ 8 }
-    ensures { OnOk result (out.new.items ≡ out.old.items ++ signature_spelling codes.now) }
+    ensures ok { OnOk result (out.new.items ≡ out.old.items ++ signature_spelling codes.now) }
+    ensures err { OnErr result (Keeps out.old.items out.new.items) }
 {
     out.push(codes.len() as u8)?;
     out.extend_from_slice(codes)?;

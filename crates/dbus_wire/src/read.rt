@@ -1,17 +1,18 @@
 //! Reads a value out of bytes.
 
-ghost use Rattle.std.specs.Prelude.{◌≡◌, ◌≤◌, ◌+◌, ◌++◌, ℕ, List, length, drop, IfOk};
+ghost use Rattle.std.specs.Prelude.{◌≡◌, ◌≤◌, ◌+◌, ◌++◌, ℕ, List, length, drop, IfOk, Ok};
 ghost use Rattle.dbus_signature.specs.Cursors.{read_at, seen};
 ghost use Rattle.dbus_signature.specs.Reading.{Gives};
-ghost use Rattle.dbus_signature.specs.Signatures.{IsOneType, SpellsType};
+ghost use Rattle.dbus_signature.specs.Signatures.{all_kinds, IsOneType, SpellsType};
 ghost use Rattle.dbus_signature.specs.declared.kind.Kind.{Kind};
 ghost use Rattle.dbus_wire.specs.declared.value.Value.{Value as Spelt};
 ghost use Rattle.dbus_wire.specs.Fits.{Spells, SpeltThere};
-ghost use Rattle.dbus_wire.specs.Values.{value_of};
+ghost use Rattle.dbus_wire.specs.Values.{value_of, values_of};
 
-use crate::containers::value_at;
+use crate::containers::{Context, members_at, value_at};
 use crate::value::{Endian, Value};
-use dbus_signature::{Cursor, Signature, WireError};
+use dbus_signature::{Cursor, Signature, WireError, kinds_at};
+use sqlite_items::Items;
 use std::alloc::Global;
 
 /// How many containers may be open at a place: arrays, structs, entries of dicts and variants.
@@ -32,7 +33,12 @@ fn value_of(
     let kind = signature.kind(alloc)?;
     let (_, rest) = bytes.split_at(offset);
     let from = Cursor { at: offset, rest };
-    let (value, after) = value_at(alloc, endian, MAX_OPEN, &kind, from)?;
+    let context = Context {
+        alloc,
+        endian,
+        room: MAX_OPEN,
+    };
+    let (value, after) = value_at(context, &kind, from)?;
     Ok((value, after.at))
 }
 
@@ -57,4 +63,33 @@ pub fn read_value(
     ensures exact { (kind : Kind) → SpellsType signature.now kind → Gives (λ read. read) result (value_of endian kind offset bytes.now) }
 {
     value_of(alloc, signature, bytes, offset, endian)
+}
+
+/// The values of a signature's types one after the other at an offset, and the offset after them.
+///
+/// Bad comes exactly where no such values stand there, with the place as for `read_value`.
+pub fn read_values(
+    alloc: Global,
+    signature: &Signature,
+    bytes: &[u8],
+    offset: usize,
+    endian: Endian,
+) -> Result<(Items<Value>, usize), WireError>
+    requires { offset ≤ length bytes.now }
+    ensures { (kinds : List Kind) → all_kinds signature.now ≡ Ok kinds → Gives (λ found. found) result (values_of endian kinds offset bytes.now) }
+{
+    let codes = Cursor {
+        at: 0,
+        rest: signature.as_bytes(),
+    };
+    let kinds = kinds_at(alloc, codes)?;
+    let (_, rest) = bytes.split_at(offset);
+    let from = Cursor { at: offset, rest };
+    let context = Context {
+        alloc,
+        endian,
+        room: MAX_OPEN,
+    };
+    let (values, after) = members_at(context, kinds.as_slice(), from)?;
+    Ok((values, after.at))
 }

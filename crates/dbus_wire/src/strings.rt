@@ -4,9 +4,9 @@ ghost use Rattle.std.specs.Prelude.{◌≡◌, ◌+◌, ◌≤◌, length, take,
 ghost use Rattle.dbus_signature.specs.Cursors.{read_at, seen};
 ghost use Rattle.dbus_signature.specs.Reading.{Gives};
 ghost use Rattle.dbus_wire.specs.Texts.{is_text, is_path, is_string};
-ghost use Rattle.dbus_wire.specs.Fields.{ended_at, signature_at, text_at, type_at, zeros_at};
-ghost use Rattle.dbus_signature.specs.Signatures.{IsKind};
-ghost use Rattle.dbus_wire.specs.Seen.{seen_type};
+ghost use Rattle.dbus_wire.specs.Fields.{closed_at, codes_at, ended_at, signature_at, text_at, type_at};
+ghost use Rattle.dbus_signature.specs.Signatures.{IsKind, IsSignature};
+ghost use Rattle.dbus_wire.specs.Seen.{seen_codes, seen_type};
 
 use crate::fields::{byte_at, u32_at, zeros_at};
 use crate::texts::{as_text, is_path};
@@ -87,13 +87,36 @@ pub fn front_of(bytes: &[u8], count: usize) -> (&[u8], &[u8])
     }
 }
 
-/// The codes of a signature, as many as are there of so many, and the bytes after them.
-fn codes_of(bytes: &[u8], count: u8) -> (&[u8], &[u8])
-    ensures front { result.0.now ≡ take count bytes.now }
-    ensures others { result.1.now ≡ drop count bytes.now }
-    ensures short { length result.0.now ≤ 255 }
+/// The codes of a signature behind their length, as many as are there, and the cursor behind them.
+#[tactic(auto, unfolding(crate::specs::Fields::codes_at))]
+fn codes_at(from: Cursor<'_>) -> Result<(Cursor<'_>, Cursor<'_>), WireError>
+    ensures exact { Gives seen_codes result (read_at codes_at from.entry) }
+    ensures short { IfOk result (λ found. length found.0.rest.now ≤ 255) }
 {
-    front_of(bytes, count as usize)
+    let (count, start) = byte_at(from)?;
+    let (front, rest) = front_of(start.rest, count as usize);
+    let codes = Cursor {
+        at: start.at,
+        rest: front,
+    };
+    let end = Cursor {
+        at: start.at + front.len(),
+        rest,
+    };
+    Ok((codes, end))
+}
+
+/// The signature of these codes, behind the NUL that closes it.
+fn closed_at<'a>(
+    alloc: Global,
+    codes: &[u8],
+    end: Cursor<'a>,
+) -> Result<(Signature, Cursor<'a>), WireError>
+    requires { IsSignature codes.now }
+    ensures { Gives seen result (read_at (closed_at codes.now) end.entry) }
+{
+    let ((), after) = zeros_at(1, end)?;
+    Ok((Signature::of_text(alloc, codes)?, after))
 }
 
 /// A signature behind its length.
@@ -103,20 +126,9 @@ fn codes_of(bytes: &[u8], count: u8) -> (&[u8], &[u8])
 pub fn signature_at(alloc: Global, from: Cursor<'_>) -> Result<(Signature, Cursor<'_>), WireError>
     ensures { Gives seen result (read_at signature_at from.entry) }
 {
-    let (count, start) = byte_at(from)?;
-    let (front, rest) = codes_of(start.rest, count);
-    let codes = Cursor {
-        at: start.at,
-        rest: front,
-    };
+    let (codes, end) = codes_at(from)?;
     kinds_at(alloc, codes)?;
-    let end = Cursor {
-        at: start.at + front.len(),
-        rest,
-    };
-    let ((), after) = zeros_at(1, end)?;
-    let signature = Signature::of_text(alloc, front)?;
-    Ok((signature, after))
+    closed_at(alloc, codes.rest, end)
 }
 
 /// A signature of one complete type, and that type.
@@ -127,21 +139,11 @@ pub fn type_at(alloc: Global, from: Cursor<'_>) -> Result<(Kind, Signature, Curs
     ensures exact { Gives seen_type result (read_at type_at from.entry) }
     ensures valid { IfOk result (λ found. IsKind found.0) }
 {
-    let (count, start) = byte_at(from)?;
-    let (front, rest) = codes_of(start.rest, count);
-    let codes = Cursor {
-        at: start.at,
-        rest: front,
-    };
+    let (codes, end) = codes_at(from)?;
     let (kind, last) = one_kind_at(alloc, codes)?;
     if !last.rest.is_empty() {
         return Err(WireError::Bad(last.at));
     }
-    let end = Cursor {
-        at: start.at + front.len(),
-        rest,
-    };
-    let ((), after) = zeros_at(1, end)?;
-    let signature = Signature::of_text(alloc, front)?;
+    let (signature, after) = closed_at(alloc, codes.rest, end)?;
     Ok((kind, signature, after))
 }

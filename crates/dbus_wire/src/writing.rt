@@ -1,44 +1,26 @@
 //! Writes values.
 
-ghost use Rattle.std.specs.Prelude.{◌≡◌, ◌<◌, ◌^◌, ◌++◌, length, OnOk, OnErr};
-ghost use Rattle.dbus_wire.specs.Spelling.{array_spelling, element_alignment, letter_alignment, spelling, spellings};
+ghost use Rattle.std.specs.Prelude.{◌≡◌, ◌<◌, ◌≤◌, ◌^◌, ◌++◌, drop, length, OnOk, OnErr};
+ghost use Rattle.dbus_signature.specs.declared.kind.Kind.{Kind};
+ghost use Rattle.dbus_wire.specs.Appending.{Keeps};
+ghost use Rattle.dbus_wire.specs.Fits.{Fits, HasSpelling, Spells};
+ghost use Rattle.dbus_wire.specs.Spelling.{array_spelling, spelling, spellings};
+ghost use Rattle.dbus_wire.specs.Values.{max_open};
 
+use crate::alignment::element_alignment;
 use crate::numbers::{
     push_padding, push_signature, push_text, push_u16, push_u32, push_u64, set_u32,
 };
 use crate::value::{Endian, Value};
 use fw_base::Memory;
 
-/// What values begin at a multiple of, by the first letter of their type.
-fn letter_alignment(letter: u8) -> usize
-    ensures exact { result ≡ letter_alignment letter }
-    ensures some { 0 < result }
-{
-    match letter {
-        b'y' | b'g' | b'v' => 1,
-        b'n' | b'q' => 2,
-        b'x' | b't' | b'd' | b'(' | b'{' => 8,
-        _ => 4,
-    }
-}
-
-/// The alignment of the elements of an array, by its type.
-fn element_alignment(codes: &[u8]) -> usize
-    ensures exact { result ≡ element_alignment codes.now }
-    ensures some { 0 < result }
-{
-    match codes {
-        [_, letter, ..] => letter_alignment(*letter),
-        _ => 1,
-    }
-}
-
 /// Appends the spelling of a value at the offset where the bytes end.
 #[cycle(writing)]
-#[tactic(auto, using(crate::proofs::SpellingLaws::spelt))]
+#[tactic(auto, using(crate::proofs::SpellingLaws::spelt, crate::proofs::KeepsLaws::keeping))]
 fn push_value(out: &mut Vec<u8>, endian: Endian, value: &Value) -> Result<(), Memory>
     requires { length (spelling endian value.now (length out.old.items)) < 2 ^ 32 }
-    ensures { OnOk result (out.new.items ≡ out.old.items ++ spelling endian value.now (length out.old.items)) }
+    ensures ok { OnOk result (out.new.items ≡ out.old.items ++ spelling endian value.now (length out.old.items)) }
+    ensures err { OnErr result (Keeps out.old.items out.new.items) }
 {
     match value {
         Value::Byte(byte) => {
@@ -79,9 +61,11 @@ fn push_value(out: &mut Vec<u8>, endian: Endian, value: &Value) -> Result<(), Me
 
 /// Appends the spellings of values one after the other.
 #[cycle(writing)]
+#[tactic(auto, using(crate::proofs::KeepsLaws::keeping))]
 fn push_all(out: &mut Vec<u8>, endian: Endian, values: &[Value]) -> Result<(), Memory>
     requires { length (spellings endian values.now (length out.old.items)) < 2 ^ 32 }
-    ensures { OnOk result (out.new.items ≡ out.old.items ++ spellings endian values.now (length out.old.items)) }
+    ensures ok { OnOk result (out.new.items ≡ out.old.items ++ spellings endian values.now (length out.old.items)) }
+    ensures err { OnErr result (Keeps out.old.items out.new.items) }
 {
     for value in values {
         push_value(out, endian, value)?;
@@ -91,6 +75,7 @@ fn push_all(out: &mut Vec<u8>, endian: Endian, values: &[Value]) -> Result<(), M
 
 /// Appends an array of values that are aligned so: its length in bytes, padding, and the values.
 #[cycle(writing)]
+#[tactic(auto, using(crate::proofs::KeepsLaws::keeping))]
 fn push_array(
     out: &mut Vec<u8>,
     endian: Endian,
@@ -98,8 +83,10 @@ fn push_array(
     values: &[Value],
 ) -> Result<(), Memory>
     requires some { 0 < align }
+    requires aligned { align ≤ 8 }
     requires short { length (array_spelling endian align (spellings endian values.now) (length out.old.items)) < 2 ^ 32 }
-    ensures { OnOk result (out.new.items ≡ out.old.items ++ array_spelling endian align (spellings endian values.now) (length out.old.items)) }
+    ensures ok { OnOk result (out.new.items ≡ out.old.items ++ array_spelling endian align (spellings endian values.now) (length out.old.items)) }
+    ensures err { OnErr result (Keeps out.old.items out.new.items) }
 {
     push_padding(out, 4)?;
     let place = out.len();
@@ -112,16 +99,23 @@ fn push_array(
     Ok(())
 }
 
-/// Appends a value's one spelling at the offset where the bytes end.
+/// Appends a value's one spelling at the offset where the bytes end, in one pass and in place.
 ///
-/// Needs less than 4 GiB of spelling; a message has less. For want of memory the bytes are as before.
+/// Needs a value that has a spelling there, of less than 4 GiB; a message has less. For want of memory the bytes are
+/// as before.
 pub fn write_value(value: &Value, endian: Endian, out: &mut Vec<u8>) -> Result<(), Memory>
-    requires { length (spelling endian value.now (length out.old.items)) < 2 ^ 32 }
+    requires spelt { HasSpelling endian (length out.old.items) value.now }
+    requires short { length (spelling endian value.now (length out.old.items)) < 2 ^ 32 }
     ensures ok { OnOk result (out.new.items ≡ out.old.items ++ spelling endian value.now (length out.old.items)) }
+    // What was appended spells the value, as each type as which it has a spelling there.
+    ensures spells { OnOk result ((kind : Kind) → Fits endian max_open kind (length out.old.items) value.now
+        → Spells endian kind (length out.old.items) (drop (length out.old.items) out.new.items) value.now) }
     ensures err { OnErr result (out.new.items ≡ out.old.items) }
 {
-    let mut longer = out.clone()?;
-    push_value(&mut longer, endian, value)?;
-    *out = longer;
-    Ok(())
+    let end = out.as_slice().len();
+    let written = push_value(out, endian, value);
+    if written.is_err() {
+        out.truncate(end);
+    }
+    written
 }

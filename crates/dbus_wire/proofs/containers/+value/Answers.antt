@@ -1,4 +1,4 @@
-use Rattle.std.proofs.Common.{arith, rules, sym, ◌∙◌}
+use Rattle.std.proofs.Common.{rules, sym, ◌∙◌}
 use Rattle.std.proofs.lemmas.Bool.{eqb-true, eqb-false}
 use Rattle.std.proofs.lemmas.Result.{err_from_is_err_and}
 use Rattle.dbus_signature.proofs.Inner.{element_is, value_is, members_is}
@@ -8,50 +8,50 @@ use Rattle.dbus_wire.proofs.ValueLaws.{entry_closed, some_left, none_left, items
 use Rattle.dbus_wire.proofs.containers.+value.Goals as goal
 use Rattle.dbus_wire.proofs.containers.+value.Goals.{items_at-else-loop-test, items_at-then-loop-test+then-is_empty}
 
-pub entry_at-returns-then-room-eq0 : goal.entry_at-returns-then-room-eq0
-entry_at-returns-then-room-eq0 t c = rw c.if-room-eq0.true (entry_closed c.args.endian c.args.key c.args.kind.now c.args.from.at c.args.from.rest.now)
+pub entry_at-returns-then-context-eq0 : goal.entry_at-returns-then-context-eq0
+entry_at-returns-then-context-eq0 t c = rw c.if-context-eq0.true (entry_closed c.args.context.endian c.args.key c.args.kind.now c.args.from.at c.args.from.rest.now)
 
 pub items_at-returns-in_err-item : goal.items_at-returns-in_err-item
 items_at-returns-in_err-item t c =
     let p = err_from_is_err_and c.from_residual.result c.from_residual.ensures.1 in
-    rw (p.1, p.2) (items_end (element_at c.args.endian c.args.room c.args.element) c.in_err-item.field-0.0 c.loop.items _ c.loop.counter c.loop.next.at c.loop.next.rest.now _ c.loop-test.true (some_left c.loop.next.rest.now c.is_empty.result c.is_empty.ensures c.if-is_empty.false) c.in_err-item.ensures c.loop.invariant)
+    rw (p.1, p.2) (items_end (element_at c.args.context.endian c.args.context.room c.args.element) c.in_err-item.field-0.0 c.loop.items _ c.loop.counter c.loop.next.at c.loop.next.rest.now _ c.loop-test.true (some_left c.loop.next.rest.now c.is_empty.result c.is_empty.ensures c.if-is_empty.false) c.in_err-item.ensures c.loop.invariant)
 
 pub items_at-loop-preserved : goal.items_at-loop-preserved
 items_at-loop-preserved t c =
-    rw c.in_ok-push.ensures.ok (items_go_on (element_at c.args.endian c.args.room c.args.element) c.loop.items _ c.loop.counter c.loop.next.at c.loop.next.rest.now c.in_ok-item.item c.in_ok-item.after.at c.in_ok-item.after.rest.now _ c.loop-test.true (some_left c.loop.next.rest.now c.is_empty.result c.is_empty.ensures c.if-is_empty.false) c.in_ok-item.ensures c.loop.invariant)
+    rw c.in_ok-push.ensures.ok (items_go_on (element_at c.args.context.endian c.args.context.room c.args.element) c.loop.items _ c.loop.counter c.loop.next.at c.loop.next.rest.now c.in_ok-item.item c.in_ok-item.after.at c.in_ok-item.after.rest.now _ c.loop-test.true (some_left c.loop.next.rest.now c.is_empty.result c.is_empty.ensures c.if-is_empty.false) c.in_ok-item.ensures c.loop.invariant)
 
 pub items_at-returns-then-not-is_empty : goal.items_at-returns-then-not-is_empty
 items_at-returns-then-not-is_empty t c =
     elim c.loop-test.branch [
-      | items_at-else-loop-test w ↦ items_left (element_at c.args.endian c.args.room c.args.element) c.loop.items _ c.loop.counter c.loop.next.at c.loop.next.rest.now _ w.loop-test.false (some_left c.loop.next.rest.now c.is_empty-2.result c.is_empty-2.ensures c.if-not-is_empty.true) c.loop.invariant
+      | items_at-else-loop-test w ↦ items_left (element_at c.args.context.endian c.args.context.room c.args.element) c.loop.items _ c.loop.counter c.loop.next.at c.loop.next.rest.now _ w.loop-test.false (some_left c.loop.next.rest.now c.is_empty-2.result c.is_empty-2.ensures c.if-not-is_empty.true) c.loop.invariant
       | items_at-then-loop-test+then-is_empty w ↦ absurd (eqb-false _ _ (sym c.is_empty-2.ensures ∙ c.if-not-is_empty.true) (eqb-true _ _ (sym w.is_empty.ensures ∙ w.if-is_empty.true)))
     ]
 
 pub items_at-returns : goal.items_at-returns
 items_at-returns t c =
-    items_done (element_at c.args.endian c.args.room c.args.element) c.loop.items _ c.loop.next.at c.loop.next.rest.now _ (none_left c.loop.next.rest.now c.is_empty-2.result c.is_empty-2.ensures c.if-not-is_empty.false) c.loop.invariant
+    items_done (element_at c.args.context.endian c.args.context.room c.args.element) c.loop.items _ c.loop.next.at c.loop.next.rest.now _ (none_left c.loop.next.rest.now c.is_empty-2.result c.is_empty-2.ensures c.if-not-is_empty.false) c.loop.invariant
 
 pub members_at-returns-in_err-member : goal.members_at-returns-in_err-member
 members_at-returns-in_err-member t c =
     let p = err_from_is_err_and c.from_residual.result c.from_residual.ensures.1 in
-    rw (p.1, p.2) (members_end (value_at c.args.endian c.args.room) c.in_err-member.field-0.0 c.loop-kind.members c.args.kinds.now c.loop-kind.kind-index c.kind-item.result c.loop-kind.next.at c.loop-kind.next.rest.now _ c.loop-kind-test.true c.kind-item.is c.in_err-member.ensures c.loop-kind.invariant)
+    rw (p.1, p.2) (members_end (value_at c.args.context.endian c.args.context.room) c.in_err-member.field-0.0 c.loop-kind.members c.args.kinds.now c.loop-kind.kind-index c.kind-item.result c.loop-kind.next.at c.loop-kind.next.rest.now _ c.loop-kind-test.true c.kind-item.is c.in_err-member.ensures c.loop-kind.invariant)
 
 pub members_at-loop-kind-preserved : goal.members_at-loop-kind-preserved
 members_at-loop-kind-preserved t c =
-    rw c.in_ok-push.ensures.ok (members_go_on (value_at c.args.endian c.args.room) c.loop-kind.members c.args.kinds.now c.loop-kind.kind-index c.kind-item.result c.loop-kind.next.at c.loop-kind.next.rest.now c.in_ok-member.member c.in_ok-member.after.at c.in_ok-member.after.rest.now _ c.loop-kind-test.true c.kind-item.is c.in_ok-member.ensures c.loop-kind.invariant)
+    rw c.in_ok-push.ensures.ok (members_go_on (value_at c.args.context.endian c.args.context.room) c.loop-kind.members c.args.kinds.now c.loop-kind.kind-index c.kind-item.result c.loop-kind.next.at c.loop-kind.next.rest.now c.in_ok-member.member c.in_ok-member.after.at c.in_ok-member.after.rest.now _ c.loop-kind-test.true c.kind-item.is c.in_ok-member.ensures c.loop-kind.invariant)
 
 pub members_at-returns : goal.members_at-returns
 members_at-returns t c =
-    members_done (value_at c.args.endian c.args.room) c.loop-kind.members c.args.kinds.now c.loop-kind.kind-index c.loop-kind.next.at c.loop-kind.next.rest.now _ c.loop-kind-test.false c.loop-kind.invariant
+    members_done (value_at c.args.context.endian c.args.context.room) c.loop-kind.members c.args.kinds.now c.loop-kind.kind-index c.loop-kind.next.at c.loop-kind.next.rest.now _ c.loop-kind-test.false c.loop-kind.invariant
 
 pub open_value_at-array_value_at-requires : goal.open_value_at-array_value_at-requires
 open_value_at-array_value_at-requires t c =
-    (search rules, (c.alignment-align.ensures.some, (c.requires, rw c.get.ensures (element_is c.in-Array.inner (rw c.in-Array.is at c.requires)))))
+    (search rules, (c.requires, rw c.get.ensures (element_is c.in-Array.inner (rw c.in-Array.is at c.requires))))
 
 pub open_value_at-array_value_at-requires-in-Dict :
     goal.open_value_at-array_value_at-requires-in-Dict
 open_value_at-array_value_at-requires-in-Dict t c =
-    (search rules, (omega arith, (c.requires, rw c.get-in-Dict.ensures (value_is c.in-Dict.key c.in-Dict.inner (rw c.in-Dict.is at c.requires)))))
+    (search rules, (c.requires, rw c.get-in-Dict.ensures (value_is c.in-Dict.key c.in-Dict.inner (rw c.in-Dict.is at c.requires))))
 
 pub open_value_at-struct_at-requires : goal.open_value_at-struct_at-requires
 open_value_at-struct_at-requires t c =
