@@ -1,5 +1,6 @@
 //! The way of a packet through the rules of a ruleset.
 ghost use Rattle.std.specs.Prelude.{◌≡◌, ◌+◌, ◌<◌, [], IfOk, OnOk, OnErr};
+ghost use Rattle.nf_eval.specs.Decisions.{rule_decision};
 ghost use Rattle.nf_eval.specs.Evaluation.{Ends, Eval, IsOneInputChain, Visits, outcome_of, rules_looked_at, rules_met};
 
 use crate::decision::rule_decision;
@@ -74,10 +75,18 @@ fn chain_verdict<L: Ledger>(rules: &[Rule], packet: &Packet, steps: &mut Steps<L
     ensures visits { steps.new ≡ steps.old + rules_looked_at packet.now rules.now }
 {
     for rule in rules {
-        steps.tick();
-        if let Some(verdict) = rule_decision(packet, rule) {
+        if let Some(verdict) = look(rule, packet, steps) {
             return verdict;
         }
     }
     Verdict::Accept
+}
+
+/// Looks at a rule: a step, and what the rule decides.
+fn look<L: Ledger>(rule: &Rule, packet: &Packet, steps: &mut Steps<L>) -> Option<Verdict>
+    ensures decision { result ≡ rule_decision packet.now rule.now }
+    ensures step { steps.new ≡ steps.old + 1 }
+{
+    steps.tick();
+    rule_decision(packet, rule)
 }

@@ -21,7 +21,7 @@ loop-rule-preserved g c =
     let undecided : rule_decision c.args.packet.now c.rule-item.result ≡ None = cc in
     let counted
     : c.loop-rule.steps + rules_looked_at c.args.packet.now (drop c.loop-rule.rule-index c.args.rules.now)
-    ≡ c.tick.new.self + rules_looked_at c.args.packet.now (drop (c.loop-rule.rule-index + 1) c.args.rules.now)
+    ≡ c.look.new.steps + rules_looked_at c.args.packet.now (drop (c.loop-rule.rule-index + 1) c.args.rules.now)
     = grind (arith, common_steps)
     in
     (λ outcome after. c.loop-rule.invariant.0 outcome (goes_on here undecided after), cc)
