@@ -86,5 +86,11 @@ plain-ports (port ∷ ports) = plain-ports ports
 -- the ruleset is one chain at input of plain rules
 pub first_form : (ports : List Port) → IsOneInputChain (first_ruleset ports)
 first_form ports = record {
-  chain = first_chain ports; base = record { kind = Filter; hook = Input; priority = pos 10 };
-  alone = refl; hooked = refl; filters = refl; at_input = refl; plain = plain-ports ports }
+  chain = first_chain ports;
+  base = record { kind = Filter; hook = Input; priority = pos 10 };
+  alone = refl;
+  hooked = refl;
+  filters = refl;
+  at_input = refl;
+  plain = plain-ports ports;
+}

@@ -30,7 +30,6 @@ pub struct IpSet {
     pub items: Seq<Item>,
 }
 
-
 impl TryCopy for IpSet {
     fn copy(&self, _alloc: Global) -> Result<IpSet, Memory> {
         Ok(self.clone()?)

@@ -1,5 +1,6 @@
 //! Texts in quotes, as scripts and printed rules have them.
 #![tactic(auto)]
+
 ghost use Rattle.std.specs.Prelude.{◌≡◌, ◌<◌, ◌∷◌, [], ◌++◌, OnOk, encode_utf8, string_bytes};
 ghost use Rattle.std.specs.List.{flat_map};
 ghost use Rattle.fw_quote.specs.Quoted.{hex_digit, quoted, quoted_byte};

@@ -7,4 +7,10 @@ use Rattle.fw_service.specs.Zones.{built_in_zones}
 
 abbrev pub built_in_config : Config
 built_in_config = record {
-    default_zone = codes "public"; log_denied = Off; zones = built_in_zones; policies = []; services = []; ipsets = [] }
+  default_zone = codes "public";
+  log_denied = Off;
+  zones = built_in_zones;
+  policies = [];
+  services = [];
+  ipsets = [];
+}

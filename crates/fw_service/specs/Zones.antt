@@ -13,13 +13,27 @@ no_notes = record { version = []; short = []; description = [] }
 -- nothing is let in or blocked
 abbrev pub no_rules : Bool → Rules
 no_rules masquerade = record {
-    services = []; ports = []; protocols = []; source_ports = []; icmp_blocks = []; masquerade = masquerade;
-    forwards = []; rich = [] }
+  services = [];
+  ports = [];
+  protocols = [];
+  source_ports = [];
+  icmp_blocks = [];
+  masquerade = masquerade;
+  forwards = [];
+  rich = [];
+}
 
 abbrev pub plain_zone : List ℕ → ZoneTarget → Bool → Zone
 plain_zone name target masquerade = record {
-    name = name; notes = no_notes; target = target; rules = no_rules masquerade; inversion = false; forward = true;
-    interfaces = []; sources = [] }
+  name = name;
+  notes = no_notes;
+  target = target;
+  rules = no_rules masquerade;
+  inversion = false;
+  forward = true;
+  interfaces = [];
+  sources = [];
+}
 
 -- the name, the target, and whether it masquerades
 abbrev pub built_in_zones : List Zone

@@ -26,7 +26,12 @@ pub fn built_in_zones(alloc: Global) -> Result<Seq<Zone>, Memory>
 }
 
 /// A zone with no setting but these, that lets packets go from it to itself.
-fn plain_zone(alloc: Global, name: &str, target: ZoneTarget, masquerade: bool) -> Result<Zone, Memory>
+fn plain_zone(
+    alloc: Global,
+    name: &str,
+    target: ZoneTarget,
+    masquerade: bool,
+) -> Result<Zone, Memory>
     ensures { IfOk result (λ zone. zone ≡ plain_zone name.now target masquerade) }
 {
     Ok(Zone {

@@ -29,4 +29,9 @@ absent_before items place item other is differs absent =
 -- a list without the item at its first place
 pub removed_at : {A : Type 0} (items left : List A) (place : ℕ) (item : A) → IsFirstPlace items place item → left ≡ remove items place → IsRemoved item items left
 removed_at items left place item found is = record {
-  before = take place items; behind = drop (suc place) items; was = around items place item found.at; first = found.first; is = is }
+  before = take place items;
+  behind = drop (suc place) items;
+  was = around items place item found.at;
+  first = found.first;
+  is = is;
+}

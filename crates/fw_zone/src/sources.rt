@@ -4,9 +4,8 @@ ghost use Rattle.fw_zone.specs.Bindings.{sources_of, with_sources, IsBound, IsFi
 
 use super::BindError;
 use super::bindings::{bind, move_to, unbind, zone_of};
-use fw_model::Binding;
 use fw_base::Seq;
-use fw_model::Zone;
+use fw_model::{Binding, Zone};
 
 /// Binds a source to the zone at a place, the last of the zone's list.
 ///

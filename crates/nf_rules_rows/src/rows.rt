@@ -132,7 +132,13 @@ fn tests(alloc: Global) -> Result<Seq<Test>, Memory> {
     tests.push(Test::Out(interface("eth+")?))?;
     tests.push(Test::Proto(Proto(89)))?;
     tests.push(Test::Sport(PortProto::Tcp, PortRange { first: 1, last: 9 }))?;
-    tests.push(Test::Dport(PortProto::Udp, PortRange { first: 53, last: 53 }))?;
+    tests.push(Test::Dport(
+        PortProto::Udp,
+        PortRange {
+            first: 53,
+            last: 53,
+        },
+    ))?;
     tests.push(Test::DportSet(PortProto::Sctp, Text::of(alloc, "P")?))?;
     tests.push(Test::Icmp(Family::V4, 8))?;
     tests.push(Test::Icmp(Family::V6, 128))?;
@@ -180,7 +186,10 @@ fn add_sets(alloc: Global, sets: &mut Seq<NfSet>) -> Result<(), Memory> {
     macs.push(Mac(10))?;
     let mut ports = Seq::new(alloc);
     ports.push(PortRange { first: 1, last: 9 })?;
-    ports.push(PortRange { first: 22, last: 22 })?;
+    ports.push(PortRange {
+        first: 22,
+        last: 22,
+    })?;
     for (name, body) in [
         ("E", SetBody::Macs(Seq::new(alloc))),
         ("M", SetBody::Macs(macs)),

@@ -99,7 +99,11 @@ fn push_base(out: &mut String, base: &Option<Base>) -> Result<(), Memory>
     let Some(base) = base else {
         return Ok(());
     };
-    let Base { kind, hook, priority } = *base;
+    let Base {
+        kind,
+        hook,
+        priority,
+    } = *base;
     write!(out, "\t\ttype {} hook {}", kind_word(kind), hook_word(hook))?;
     write!(out, " priority {priority}; policy accept;\n")?;
     Ok(())

@@ -12,8 +12,13 @@ returns-clause-moved g c =
     let found = c.place_in-at.ensures zone (ap (λ zones. slice_get zones c.args.from) c.as_slice.ensures ∙ was) in
     let left = remove (g.T.Entry.of zone) c.place_in-at.result in
     record {
-      between = c.append_at.new.zones; bound = bound;
+      between = c.append_at.new.zones;
+      bound = bound;
       unbound = record {
-        zone = zone; left = left; at = c.get_mut.ensures.value;
+        zone = zone;
+        left = left;
+        at = c.get_mut.ensures.value;
         removed = removed_at (g.T.Entry.of zone) left c.place_in-at.result c.args.entry found refl;
-        is = ap (λ changed. slice_set c.append_at.new.zones c.args.from changed) c.take_out.ensures } }
+        is = ap (λ changed. slice_set c.append_at.new.zones c.args.from changed) c.take_out.ensures;
+      };
+    }

@@ -10,6 +10,9 @@ returns-in-Some g c =
     let left = remove (g.T.Entry.of zone) c.in-Some.at in
     let found = subst (λ items. IsFirstPlace items c.in-Some.at c.args.entry.now) c.entries.ensures c.in-Some.ensures.found in
     record {
-      zone = zone; left = left; at = c.get_mut-zone.ensures.value;
+      zone = zone;
+      left = left;
+      at = c.get_mut-zone.ensures.value;
       removed = removed_at (g.T.Entry.of zone) left c.in-Some.at c.args.entry.now found refl;
-      is = ap (λ changed. slice_set c.args.zones.now c.args.place changed) c.take_out.ensures }
+      is = ap (λ changed. slice_set c.args.zones.now c.args.place changed) c.take_out.ensures;
+    }
