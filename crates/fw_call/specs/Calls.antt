@@ -1,0 +1,91 @@
+-- What follows the word `call` and the client's number: a member and its arguments (firewalld.dbus(5); the spelling is
+-- this project's own).
+use Rattle.std.specs.Prelude.{ℕ, codes, List, [], ◌∷◌, Option, None, Some, if◌then◌else◌}
+use Rattle.std.specs.Str.{bytes_eq}
+use Rattle.fw_text.specs.Names.{named}
+use Rattle.fw_text.specs.Steps.{◌>>=◌}
+use Rattle.fw_call.specs.Members.{members}
+use Rattle.fw_call.specs.Reading.{Read, at_end, next}
+use Rattle.fw_call.specs.declared.call.BindingWord.{BindingWord}
+use Rattle.fw_call.specs.declared.call.Call.{Call}
+use Rattle.fw_call.specs.declared.call.Call.TheVariants as call
+use Rattle.fw_call.specs.declared.call.SettingWords.{SettingWords}
+use Rattle.fw_call.specs.declared.call.SettingWords.TheVariants as setting
+use Rattle.fw_call.specs.declared.member.BindingKind.{BindingKind}
+use Rattle.fw_call.specs.declared.member.Member.{Member}
+use Rattle.fw_call.specs.declared.member.Member.TheVariants as member
+use Rattle.fw_call.specs.declared.member.SettingKind.{SettingKind}
+use Rattle.fw_call.specs.declared.member.SettingKind.TheVariants as kind
+use Rattle.fw_call.specs.declared.member.Verb.{Verb}
+use Rattle.fw_call.specs.declared.member.Verb.TheVariants as verb
+
+-- the words of a setting
+abbrev pub setting_words : SettingKind → List (List ℕ) → Option (Read SettingWords)
+setting_words kind.Port words = do
+  port ← next words
+  protocol ← next port.1
+  Some (setting.Port port.0 protocol.0, protocol.1)
+setting_words kind.SourcePort words = do
+  port ← next words
+  protocol ← next port.1
+  Some (setting.SourcePort port.0 protocol.0, protocol.1)
+setting_words kind.Protocol words = do
+  protocol ← next words
+  Some (setting.Protocol protocol.0, protocol.1)
+setting_words kind.IcmpBlock words = do
+  name ← next words
+  Some (setting.IcmpBlock name.0, name.1)
+
+-- the timeout of a setting that is added: none, as the number 0
+abbrev pub timeout : Verb → List (List ℕ) → Option (List (List ℕ))
+timeout verb.Add [] = None
+timeout verb.Add (word ∷ words) = if bytes_eq word (codes "0") then Some words else None
+timeout verb.Remove words = Some words
+timeout verb.Query words = Some words
+
+abbrev pub setting_call : Verb → SettingKind → List (List ℕ) → Option Call
+setting_call verb kind words = do
+  zone ← next words
+  setting ← setting_words kind zone.1
+  rest ← timeout verb setting.1
+  at_end (call.Setting verb zone.0 setting.0) rest
+
+abbrev pub inversion_call : Verb → List (List ℕ) → Option Call
+inversion_call verb words = do
+  zone ← next words
+  at_end (call.Inversion verb zone.0) zone.1
+
+abbrev pub binding_call : Verb → BindingKind → List (List ℕ) → Option Call
+binding_call verb kind words = do
+  zone ← next words
+  text ← next zone.1
+  at_end (call.Binding verb zone.0 (record { kind = kind; text = text.0 })) text.1
+
+abbrev pub change_zone_call : BindingKind → List (List ℕ) → Option Call
+change_zone_call kind words = do
+  zone ← next words
+  text ← next zone.1
+  at_end (call.ChangeZone zone.0 (record { kind = kind; text = text.0 })) text.1
+
+abbrev pub zone_of_call : BindingKind → List (List ℕ) → Option Call
+zone_of_call kind words = do
+  text ← next words
+  at_end (call.ZoneOf (record { kind = kind; text = text.0 })) text.1
+
+-- a member's arguments
+unfoldable pub arguments : Member → List (List ℕ) → Option Call
+arguments (member.Setting verb kind) words = setting_call verb kind words
+arguments (member.Inversion verb) words = inversion_call verb words
+arguments (member.Binding verb kind) words = binding_call verb kind words
+arguments (member.ChangeZone kind) words = change_zone_call kind words
+arguments (member.ZoneOf kind) words = zone_of_call kind words
+arguments member.Zones words = at_end call.Zones words
+arguments member.ActiveZones words = at_end call.ActiveZones words
+arguments member.DefaultZone words = at_end call.DefaultZone words
+
+-- a member by its name, and its arguments
+unfoldable pub call_of : List (List ℕ) → Option Call
+call_of words = do
+  name ← next words
+  member ← named members name.0
+  arguments member name.1
