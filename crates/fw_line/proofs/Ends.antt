@@ -1,7 +1,7 @@
 -- Where nothing is said: a word is left, or a reading was refused.
 use Rattle.std.proofs.Common.{◌≡◌, ◌≢◌, ℕ, List, [], ◌∷◌, Option, None, Some, Ok, Err, refl}
 use Rattle.std.specs.Option.{ok_or}
-use Rattle.fw_line.specs.Steps.{at_end}
+use Rattle.fw_line.specs.Reading.{at_end}
 
 pub not_at_end : {A : Type 0} (said : A) (words : List (List ℕ)) → words ≢ [] → at_end said words ≡ None
 not_at_end said [] some = absurd (some refl)

@@ -3,5 +3,4 @@ pub mod Line
 pub mod OutcomeText
 pub mod Outcomes
 pub mod Packets
-pub mod Steps
-pub mod Words
+pub mod Reading

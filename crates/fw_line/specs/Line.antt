@@ -2,7 +2,8 @@
 use Rattle.std.specs.Prelude.{ℕ, ◌==◌, Bool, true, not, if◌then◌else◌, codes, List, [], ◌∷◌, Option, None, Some}
 use Rattle.std.specs.Option.{option_map}
 use Rattle.std.specs.Str.{bytes_eq, is_utf8}
-use Rattle.fw_text.specs.Pieces.{pieces}
+use Rattle.fw_text.specs.Steps.{◌>>=◌}
+use Rattle.fw_words.specs.Words.{words}
 use Rattle.fw_line.specs.Calls.{call_of}
 use Rattle.fw_line.specs.Packets.{packet_of}
 use Rattle.fw_line.specs.declared.line.Line.{Line}
@@ -21,9 +22,9 @@ abbrev pub is_skipped : List ℕ → Bool
 is_skipped [] = true
 is_skipped (first ∷ line) = first == 35
 
--- What a line says, where it is in the grammar: text in UTF-8 that is skipped, or its words between blanks.
+-- What a line says, where it is in the grammar: text in UTF-8 that is skipped, or its words.
 unfoldable pub line_of : List ℕ → Option Line
 line_of bytes =
     if not (is_utf8 bytes) then None
     else if is_skipped bytes then Some line.Skip
-    else line_of_words (pieces 32 bytes)
+    else words bytes >>= line_of_words

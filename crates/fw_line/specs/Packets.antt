@@ -10,8 +10,8 @@ use Rattle.fw_addr.specs.declared.packet.PktType.TheVariants.{Unicast}
 use Rattle.fw_model.specs.Packets.{has_ports, is_v4}
 use Rattle.fw_model.specs.declared.packet.Origin.TheVariants.{Link}
 use Rattle.fw_model.specs.declared.packet.Packet.{Packet}
-use Rattle.fw_line.specs.Steps.{◌>>=◌, at_end}
-use Rattle.fw_line.specs.Words.{value_of}
+use Rattle.fw_text.specs.Steps.{◌>>=◌}
+use Rattle.fw_line.specs.Reading.{at_end, value_of}
 
 -- an address of IPv4
 abbrev pub only_v4 : Addr → Option Addr

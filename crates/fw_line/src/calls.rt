@@ -2,9 +2,10 @@
 ghost use Rattle.fw_line.specs.Calls.{call_of};
 ghost use Rattle.fw_line.specs.Outcomes.{Says};
 
-use super::words::Words;
-use super::{Call, LineError};
+use super::Call;
+use super::reading::skip;
 use fw_base::Text;
+use fw_words::{LineError, Words};
 use std::alloc::Global;
 
 /// A call, by the words that are left of its line.
@@ -12,12 +13,12 @@ use std::alloc::Global;
 pub fn read_call(alloc: Global, words: &mut Words) -> Result<Call, LineError>
     ensures { Says result (call_of words.old) }
 {
-    words.skip(b"1")?;
-    words.skip(b"zone.addPort")?;
-    words.skip(b"public")?;
-    let port = words.bare()?;
-    let protocol = words.bare()?;
-    words.skip(b"0")?;
+    skip(words, "1")?;
+    skip(words, "zone.addPort")?;
+    skip(words, "public")?;
+    let port = words.next()?;
+    let protocol = words.next()?;
+    skip(words, "0")?;
     words.end()?;
     Ok(Call::ZoneAddPort {
         port: Text::of(alloc, port)?,

@@ -6,7 +6,7 @@ mod line;
 mod lines;
 mod outcome_text;
 mod packets;
-mod words;
+mod reading;
 
 pub use fw_words::LineError;
 pub use line::{Call, Line};

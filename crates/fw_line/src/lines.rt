@@ -1,12 +1,14 @@
 //! Reading a line of a script.
-ghost use Rattle.std.specs.Prelude.{◌≡◌, IfOk};
+ghost use Rattle.std.specs.Prelude.{◌≡◌, if◌then◌else◌, None, Some, IfOk};
+ghost use Rattle.std.specs.Option.{option_copied};
+ghost use Rattle.std.specs.Str.{is_utf8};
 ghost use Rattle.fw_line.specs.Line.{is_skipped, line_of, line_of_words};
 ghost use Rattle.fw_line.specs.Outcomes.{IsAsked, Says};
 
+use super::Line;
 use super::calls::read_call;
 use super::packets::read_packet;
-use super::words::{Words, text_of};
-use super::{Line, LineError};
+use fw_words::{LineError, Words, split_words};
 use std::alloc::Global;
 
 /// Reads a line, which comes without its LF.
@@ -18,13 +20,24 @@ pub fn read_line(alloc: Global, line: &[u8]) -> Result<Line, LineError>
     ensures says { Says result (line_of line.now) }
     ensures asked { IfOk result IsAsked }
 {
-    if text_of(line).is_none() {
+    let Some(text) = text_of(line) else {
         return Err(LineError::BadLine);
-    }
+    };
     if is_skipped(line) {
         return Ok(Line::Skip);
     }
-    read_words(alloc, &mut Words::of(line))
+    let words = split_words(alloc, text)?;
+    read_words(alloc, &mut Words::of(words.as_slice()))
+}
+
+/// Bytes as text, where they are UTF-8.
+fn text_of(bytes: &[u8]) -> Option<&str>
+    ensures { option_copied result ≡ (if is_utf8 bytes.now then Some bytes.now else None) }
+{
+    match std::str::from_utf8(bytes) {
+        Ok(text) => Some(text),
+        Err(_) => None,
+    }
 }
 
 /// Whether a line is empty or a comment.
@@ -43,9 +56,9 @@ fn read_words(alloc: Global, words: &mut Words) -> Result<Line, LineError>
     ensures says { Says result (line_of_words words.old) }
     ensures asked { IfOk result IsAsked }
 {
-    match words.next() {
-        Some(word) if word == b"call".as_slice() => Ok(Line::Call(read_call(alloc, words)?)),
-        Some(word) if word == b"packet".as_slice() => Ok(Line::Packet(read_packet(alloc, words)?)),
+    match words.next()? {
+        "call" => Ok(Line::Call(read_call(alloc, words)?)),
+        "packet" => Ok(Line::Packet(read_packet(alloc, words)?)),
         _ => Err(LineError::BadLine),
     }
 }

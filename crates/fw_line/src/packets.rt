@@ -9,12 +9,12 @@ ghost use Rattle.fw_model.specs.Packets.{IsFirstPacket, has_ports, is_v4};
 ghost use Rattle.fw_line.specs.Outcomes.{Says};
 ghost use Rattle.fw_line.specs.Packets.{link_name, only_v4, packet_of, with_ports};
 
-use super::LineError;
-use super::words::Words;
+use super::reading::value;
 use fw_addr::{Addr, Proto, read_addr, read_iface, read_proto};
 use fw_base::{Seq, Text};
 use fw_model::{CtState, Origin, Packet, PktType};
 use fw_text::read_number;
+use fw_words::{LineError, Words};
 use std::alloc::Global;
 
 /// A packet, by the words that are left of its line.
@@ -23,12 +23,12 @@ pub fn read_packet(alloc: Global, words: &mut Words) -> Result<Packet, LineError
     ensures says { Says result (packet_of words.old) }
     ensures asked { IfOk result IsFirstPacket }
 {
-    let src = read_ipv4(words.value(b"src=")?)?;
-    let dst = read_ipv4(words.value(b"dst=")?)?;
-    let proto = read_protocol(words.value(b"proto=")?)?;
-    let sport = read_port(words.value(b"sport=")?)?;
-    let link = read_link(words.value(b"in=")?)?;
-    let dport = read_port(words.value(b"dport=")?)?;
+    let src = read_ipv4(value(words, "src=")?)?;
+    let dst = read_ipv4(value(words, "dst=")?)?;
+    let proto = read_protocol(value(words, "proto=")?)?;
+    let sport = read_port(value(words, "sport=")?)?;
+    let link = read_link(value(words, "in=")?)?;
+    let dport = read_port(value(words, "dport=")?)?;
     words.end()?;
     let origin = Origin::Link(Text::of(alloc, link)?);
     Ok(Packet {

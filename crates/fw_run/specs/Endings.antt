@@ -1,6 +1,7 @@
 -- How a run over an input and an output ends.
-use Rattle.std.specs.Prelude.{◌≡◌, ℕ, ◌+◌, ◌⊎◌, List, ◌∷◌, ◌++◌, length, Option, None, Some, IfSome}
+use Rattle.std.specs.Prelude.{◌≡◌, ℕ, ◌+◌, ◌≤◌, ◌⊎◌, List, ◌∷◌, ◌++◌, length, Option, None, Some, IfSome}
 use Rattle.std.specs.Option.{option_map}
+use Rattle.fw_base.specs.Causes.{Rose}
 use Rattle.fw_input.specs.Lines.{Judgement, End, LineTooLong, InputTooLong}
 use Rattle.fw_run.specs.Language.{Language, Step, run_all}
 use Rattle.fw_run.specs.declared.ended.Ended.{Ended}
@@ -62,3 +63,10 @@ pub record Runs {S : Type 0} (language : Language S) (first : S) (ended : Ended)
   pub ends : IfSome input (EndsBehind language ended lines done.state)
   pub writes : Writes ended done.text before after
   pub leaves : Leaves ended done.state last
+
+-- Which end may be blamed: the counts of faults never fall, and a fault is answered only where that end's count rose.
+pub record Blames (reads reads_now writes writes_now : ℕ) (end : Ended) : Type 0 where
+  pub reads_kept : reads ≤ reads_now
+  pub writes_kept : writes ≤ writes_now
+  pub read_fault : end ≡ ended.ReadFault → Rose reads reads_now
+  pub write_fault : end ≡ ended.WriteFault → Rose writes writes_now

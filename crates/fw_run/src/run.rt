@@ -4,7 +4,7 @@ ghost use Rattle.std.specs.Option.{option_map};
 ghost use Rattle.fw_base.specs.Causes.{HasCause, Rose};
 ghost use Rattle.fw_input.specs.Lines.{Judgement, judged};
 ghost use Rattle.fw_input.specs.Reading.{decided, outlook};
-ghost use Rattle.fw_run.specs.Endings.{Runs};
+ghost use Rattle.fw_run.specs.Endings.{Blames, Runs};
 ghost use Rattle.fw_run.specs.Turns.{Flushes, Progress, Stopped};
 
 use super::runner::Runner;
@@ -53,10 +53,7 @@ fn run_lines<M: Machine, I: Source, O: Sink>(
     requires { runner.old.number + reader.old.budget ≤ 2 ^ 62 }
     ensures stopped { (first : M) (lines : Option Judgement) (before : Option (List ℕ)) → Progress M.step first lines before runner.old (outlook reader.old (I.left input.old)) (O.written output.old)
         → Stopped M.step first result lines before runner.new (O.written output.new) }
-    ensures reads { I.faults input.old ≤ I.faults input.new }
-    ensures writes { O.faults output.old ≤ O.faults output.new }
-    ensures read_fault { result ≡ Ended.ReadFault → Rose (I.faults input.old) (I.faults input.new) }
-    ensures write_fault { result ≡ Ended.WriteFault → Rose (O.faults output.old) (O.faults output.new) }
+    ensures blames { Blames (I.faults input.old) (I.faults input.new) (O.faults output.old) (O.faults output.new) result }
     ensures end { result ≡ Ended.Done → IfSome (I.left input.new) (λ left. left ≡ []) }
 {
     'lines: loop {
@@ -99,8 +96,7 @@ pub fn run_script<M: Machine, I: Source, O: Sink>(
     output: &mut O,
 ) -> Ran<M>
     ensures runs { Runs M.step machine result.ended (option_map (judged LINE_LIMIT INPUT_LIMIT) (I.left input.old)) (O.written output.old) (O.written output.new) result.machine }
-    ensures read_fault { result.ended ≡ Ended.ReadFault → Rose (I.faults input.old) (I.faults input.new) }
-    ensures write_fault { result.ended ≡ Ended.WriteFault → Rose (O.faults output.old) (O.faults output.new) }
+    ensures blames { Blames (I.faults input.old) (I.faults input.new) (O.faults output.old) (O.faults output.new) result.ended }
     ensures end { result.ended ≡ Ended.Done → IfSome (I.left input.new) (λ left. left ≡ []) }
 {
     let mut reader = LineReader::new(alloc, LINE_LIMIT, INPUT_LIMIT);

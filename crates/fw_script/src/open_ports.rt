@@ -127,7 +127,7 @@ impl OpenPorts {
             Call::ZoneAddPort { port, protocol } => {
                 let ports = self.ports.as_slice();
                 let answer = add_port(alloc, ports, port.as_str(), protocol.as_str())?;
-                push_answer(out, alloc, &answer)?;
+                push_answer(alloc, out, &answer)?;
                 let added = answer.added;
                 match added {
                     Some(port) => self.open(port),
@@ -139,13 +139,13 @@ impl OpenPorts {
 }
 
 /// Appends the lines of an answer: signals before the reply.
-fn push_answer(out: &mut String, alloc: Global, answer: &Answer) -> Result<(), Memory>
+fn push_answer(alloc: Global, out: &mut String, answer: &Answer) -> Result<(), Memory>
     ensures { OnOk result (string_bytes out.new ≡ string_bytes out.old ++ answer_text answer.now) }
 {
     for signal in answer.signals.as_slice() {
         push_signal(out, CLIENT, signal)?;
     }
-    push_reply(out, alloc, CLIENT, &answer.reply)
+    push_reply(alloc, out, CLIENT, &answer.reply)
 }
 
 impl Machine for OpenPorts {

@@ -66,16 +66,16 @@ pub fn push_signal(out: &mut String, client: u16, signal: &Signal) -> Result<(),
 ///
 /// Refuses for want of memory alone.
 #[tactic(auto, unfolding(crate::specs::Told::reply_line))]
-pub fn push_reply(out: &mut String, alloc: Global, client: u16, reply: &Reply) -> Result<(), Memory>
+pub fn push_reply(alloc: Global, out: &mut String, client: u16, reply: &Reply) -> Result<(), Memory>
     ensures { OnOk result (string_bytes out.new ≡ string_bytes out.old ++ reply_line client reply.now) }
 {
     write!(out, "reply {client} ")?;
-    push_reply_text(out, alloc, reply)?;
+    push_reply_text(alloc, out, reply)?;
     out.push('\n')?;
     Ok(())
 }
 
-fn push_reply_text(out: &mut String, alloc: Global, reply: &Reply) -> Result<(), Memory>
+fn push_reply_text(alloc: Global, out: &mut String, reply: &Reply) -> Result<(), Memory>
     ensures { OnOk result (string_bytes out.new ≡ string_bytes out.old ++ reply_text reply.now) }
 {
     match reply {
@@ -83,11 +83,11 @@ fn push_reply_text(out: &mut String, alloc: Global, reply: &Reply) -> Result<(),
             out.push_str("ok")?;
             push_values(out, values.as_slice())
         }
-        Reply::Refused { code, subject } => push_refusal(out, alloc, *code, subject.as_str()),
+        Reply::Refused { code, subject } => push_refusal(alloc, out, *code, subject.as_str()),
     }
 }
 
-fn push_refusal(out: &mut String, alloc: Global, code: Code, subject: &str) -> Result<(), Memory>
+fn push_refusal(alloc: Global, out: &mut String, code: Code, subject: &str) -> Result<(), Memory>
     ensures { OnOk result (string_bytes out.new ≡ string_bytes out.old ++ exception_text (reason_text code subject.now)) }
 {
     let reason = reason(alloc, code, subject)?;
