@@ -1,9 +1,8 @@
 -- What comes next in a stream comes whatever stands behind it.
-use Rattle.std.proofs.Common.{◌≡◌, ℕ, ◌+◌, ◌-◌, ◌<◌, ◌≤◌, Bool, true, false, cond, ltb, List, [], ◌∷◌, ◌++◌, length, get_or, take, drop, Option, Some, None, refl, sym, ap, subst, ◌∙◌, arith}
+use Rattle.std.proofs.Common.{◌≡◌, ℕ, ◌+◌, ◌-◌, ◌≤◌, Bool, true, false, cond, ltb, List, ◌∷◌, ◌++◌, length, get_or, take, drop, Option, Some, None, refl, sym, ap, subst, ◌∙◌, arith}
 use Rattle.std.proofs.Math.ListN.{get_or-append}
 use Rattle.std.proofs.lemmas.Bool.{ltb-false, le-ltb}
 use Rattle.std.proofs.lemmas.List.{length-append, length-drop, take-append-le, drop-append-le}
-use Rattle.dbus_wire.specs.declared.value.Endian.{Endian}
 use Rattle.dbus_msg.specs.declared.header.Header.{Header}
 use Rattle.dbus_msg.specs.declared.message.Message.{Message}
 use Rattle.std.specs.Prelude.{option_and_then}
@@ -11,13 +10,19 @@ use Rattle.std.specs.Int.{w32}
 use Rattle.dbus_wire.specs.Fields.{from_bytes}
 use Rattle.dbus_msg.specs.Headers.{endian_of, fixed_part, header_of, sound_header, whole_len}
 use Rattle.dbus_msg.specs.Messages.{message_of}
-use Rattle.dbus_msg.specs.Streams.{BadAt, here, judged, later, next, Next, none_whole, one_more, part, refused, Split, whole, with_start}
+use Rattle.dbus_msg.specs.Streams.{BadAt, here, judged, later, next, none_whole, one_more, part, Split, whole, with_start}
 
 -- ---- the first 16 bytes tell the header
 
 told : (letter kind flags version : ℕ) (body serial fields : List ℕ) → Option Header
 told letter kind flags version body serial fields = option_and_then (λ endian. sound_header version (record {
-  endian = endian; kind = kind; flags = flags; body_len = from_bytes endian w32 body; serial = from_bytes endian w32 serial; fields_len = from_bytes endian w32 fields })) (endian_of letter)
+  endian = endian;
+  kind = kind;
+  flags = flags;
+  body_len = from_bytes endian w32 body;
+  serial = from_bytes endian w32 serial;
+  fields_len = from_bytes endian w32 fields;
+})) (endian_of letter)
 
 told_by : (bytes : List ℕ) → header_of bytes ≡ told (get_or bytes 0 0) (get_or bytes 1 0) (get_or bytes 2 0) (get_or bytes 3 0) (take 4 (drop 4 bytes)) (take 4 (drop 8 bytes)) (take 4 (drop 12 bytes))
 unfolding told
@@ -80,7 +85,10 @@ next_more bytes piece message rest e =
     let w = whole_at bytes message rest e in
     let len = length-append bytes piece in
     whole_next (bytes ++ piece) message (rest ++ piece) (record {
-      header = w.header; long = omega (arith, w.long, len); start = start_more bytes piece w.long ∙ w.start; enough = omega (arith, w.enough, len);
+      header = w.header;
+      long = omega (arith, w.long, len);
+      start = start_more bytes piece w.long ∙ w.start;
+      enough = omega (arith, w.enough, len);
       is = ap message_of (take-append-le (whole_len w.header) bytes piece w.enough) ∙ w.is;
       behind = ap (λ (r : List ℕ). r ++ piece) w.behind ∙ sym (drop-append-le (whole_len w.header) bytes piece w.enough);
     })

@@ -1,5 +1,5 @@
 -- The fixed part of a message's header (D-Bus Specification, "Message Format").
-use Rattle.std.specs.Prelude.{◌≡◌, ℕ, ◌+◌, ◌==◌, ◌&&◌, not, nat_le, Bool, List, take, drop, slice_index, Option, Some, None, option_and_then, if◌then◌else◌}
+use Rattle.std.specs.Prelude.{ℕ, ◌+◌, ◌==◌, ◌&&◌, not, nat_le, Bool, List, take, drop, slice_index, Option, Some, None, option_and_then, if◌then◌else◌}
 use Rattle.std.specs.Int.{w32}
 use Rattle.dbus_wire.specs.declared.value.Endian.{Endian}
 use Rattle.dbus_wire.specs.declared.value.Endian.TheVariants.{Little, Big}
@@ -43,8 +43,13 @@ is_sound version header =
 -- fields.
 abbrev pub header_in : Endian → List ℕ → Header
 header_in endian bytes = record {
-  endian = endian; kind = slice_index bytes 1; flags = slice_index bytes 2;
-  body_len = number_in endian 4 bytes; serial = number_in endian 8 bytes; fields_len = number_in endian 12 bytes }
+  endian = endian;
+  kind = slice_index bytes 1;
+  flags = slice_index bytes 2;
+  body_len = number_in endian 4 bytes;
+  serial = number_in endian 8 bytes;
+  fields_len = number_in endian 12 bytes;
+}
 
 abbrev pub sound_header : ℕ → Header → Option Header
 sound_header version header = if is_sound version header then Some header else None

@@ -84,7 +84,8 @@ members_in value = members_of (out-Value value)
 abbrev pub no_fields : Known
 no_fields = record {
   fields = record { path = None; interface = None; member = None; error = None; reply_serial = None; destination = None; sender = None; fds = None };
-  signature = None }
+  signature = None;
+}
 
 -- The known fields with one more. Code 0 is at fault, and so is a known field that is there already, has another type or
 -- no such name in it, or is a serial of 0. Other codes are ignored.

@@ -42,7 +42,8 @@ fn is_element(text: &[u8]) -> bool
 fn are_bus_bytes(text: &[u8]) -> bool
     ensures { result ≡ list_all (λ d. is_letter d || is_digit d || (d == 45)) text.now }
 {
-    text.iter().all(|c| is_letter(*c) || is_digit(*c) || *c == b'-')
+    text.iter()
+        .all(|c| is_letter(*c) || is_digit(*c) || *c == b'-')
 }
 
 /// What an element of a bus name may begin with.
