@@ -1,9 +1,8 @@
 -- What comes next in a stream comes whatever stands behind it.
-use Rattle.std.proofs.Common.{◌≡◌, ℕ, ◌+◌, ◌-◌, ◌<◌, ◌≤◌, Bool, true, false, cond, ltb, List, [], ◌∷◌, ◌++◌, length, get_or, take, drop, Option, Some, None, refl, sym, ap, subst, ◌∙◌, arith}
+use Rattle.std.proofs.Common.{◌≡◌, ℕ, ◌+◌, ◌-◌, ◌≤◌, Bool, true, false, cond, ltb, List, ◌∷◌, ◌++◌, length, get_or, take, drop, Option, Some, None, refl, sym, ap, subst, ◌∙◌, arith}
 use Rattle.std.proofs.Math.ListN.{get_or-append}
 use Rattle.std.proofs.lemmas.Bool.{ltb-false, le-ltb}
 use Rattle.std.proofs.lemmas.List.{length-append, length-drop, take-append-le, drop-append-le}
-use Rattle.dbus_wire.specs.declared.value.Endian.{Endian}
 use Rattle.dbus_msg.specs.declared.header.Header.{Header}
 use Rattle.dbus_msg.specs.declared.message.Message.{Message}
 use Rattle.std.specs.Prelude.{option_and_then}
@@ -11,7 +10,7 @@ use Rattle.std.specs.Int.{w32}
 use Rattle.dbus_wire.specs.Fields.{from_bytes}
 use Rattle.dbus_msg.specs.Headers.{endian_of, fixed_part, header_of, sound_header, whole_len}
 use Rattle.dbus_msg.specs.Messages.{message_of}
-use Rattle.dbus_msg.specs.Streams.{BadAt, here, judged, later, next, Next, none_whole, one_more, part, refused, Split, whole, with_start}
+use Rattle.dbus_msg.specs.Streams.{BadAt, here, judged, later, next, none_whole, one_more, part, Split, whole, with_start}
 
 -- ---- the first 16 bytes tell the header
 

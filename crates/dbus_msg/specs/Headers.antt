@@ -1,5 +1,5 @@
 -- The fixed part of a message's header (D-Bus Specification, "Message Format").
-use Rattle.std.specs.Prelude.{◌≡◌, ℕ, ◌+◌, ◌==◌, ◌&&◌, not, nat_le, Bool, List, take, drop, slice_index, Option, Some, None, option_and_then, if◌then◌else◌}
+use Rattle.std.specs.Prelude.{ℕ, ◌+◌, ◌==◌, ◌&&◌, not, nat_le, Bool, List, take, drop, slice_index, Option, Some, None, option_and_then, if◌then◌else◌}
 use Rattle.std.specs.Int.{w32}
 use Rattle.dbus_wire.specs.declared.value.Endian.{Endian}
 use Rattle.dbus_wire.specs.declared.value.Endian.TheVariants.{Little, Big}

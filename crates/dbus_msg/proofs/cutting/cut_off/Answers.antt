@@ -1,4 +1,4 @@
-use Rattle.std.proofs.Common.{◌≡◌, ◌∷◌, [], ◌++◌, arith}
+use Rattle.std.proofs.Common.{◌≡◌, ◌∷◌, [], ◌++◌}
 use Rattle.dbus_msg.proofs.CutLaws.{cut_bad, cut_goes_on, cut_open, ok_holds}
 use Rattle.dbus_msg.proofs.cutting.cut_off.Goals as goal
 use Rattle.dbus_msg.proofs.cutting.cut_off.Goals.{in-Ok-Whole+else-is_ok, in-Ok-Part, in-Ok-Refused, in-Err}
