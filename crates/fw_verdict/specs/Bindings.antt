@@ -1,9 +1,10 @@
 -- To which zone a packet belongs (firewalld.zones(5), "How to set or change a zone for a connection or interface";
 -- firewalld.zone(5), `interface` and `source`): sources decide before interfaces, and where neither matches it is the
 -- default zone.
-use Rattle.std.specs.Prelude.{ℕ, List, [], ◌∷◌, length, map, Bool, Option, None, Some, Ordering, if◌then◌else◌}
+use Rattle.std.specs.Prelude.{ℕ, List, [], ◌∷◌, length, map, Bool, Option, None, Some, if◌then◌else◌}
 use Rattle.std.specs.List.{filter, find, flat_map, list_any}
 use Rattle.std.specs.Option.{option_map, option_or}
+use Rattle.std.specs.declared.cmp.Ordering.{Ordering}
 use Rattle.std.specs.Ordering.{is_gt, nat_cmp, ordering_then}
 use Rattle.std.specs.declared.cmp.Ordering.TheVariants.{Less, Equal, Greater}
 use Rattle.std.specs.Cmp.Lexicographic.{slice_cmp}
