@@ -2,5 +2,5 @@
 use Rattle.fw_verdict.specs.Bindings.{Entry}
 use Rattle.fw_verdict.specs.declared.interfaces.Found.{Found}
 
-abbrev pub entry : Found → Entry
-entry found = record { zone = found.zone.now; text = found.iface.now }
+abbrev pub entry_of : Found → Entry
+entry_of found = record { zone = found.zone.now; text = found.iface.now }

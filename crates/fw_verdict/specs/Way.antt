@@ -212,7 +212,7 @@ passed config packet =
     let translation = translated config marks.packet in
     let leaving = routed translation in
     let filter = filtered config translation.packet translation.packet.origin leaving in
-    let chosen = unwrap_or filter.decided_as verdict.Drop in
+    let chosen = unwrap_or filter.decided verdict.Drop in
     let end = postrouted config translation.packet leaving chosen in
     record {
       verdict = chosen;
