@@ -1,0 +1,5 @@
+pub mod Entries
+pub mod Places
+pub mod Walks
+pub mod Ways
+pub mod Zones

@@ -1,0 +1,65 @@
+-- Which packets a setting of a zone or a policy is about (firewalld.zone(5), firewalld.policy(5)).
+use Rattle.std.specs.Prelude.{ℕ, ◌==◌, List, Bool, false, not, ◌&&◌, ◌||◌, Option, None, Some}
+use Rattle.fw_addr.specs.Icmp.{icmp}
+use Rattle.fw_addr.specs.Ports.{in_range}
+use Rattle.fw_addr.specs.Protocols.{proto_number}
+use Rattle.fw_addr.specs.declared.icmp.IcmpNumbers.{IcmpNumbers}
+use Rattle.fw_model.specs.Packets.{is_v4}
+use Rattle.fw_model.specs.Ports.{port_matches}
+use Rattle.fw_model.specs.declared.config.Config.{Config}
+use Rattle.fw_model.specs.declared.packet.Packet.{Packet}
+use Rattle.fw_model.specs.declared.port.Port.{Port}
+use Rattle.fw_model.specs.declared.rich.Rich.{Rich}
+use Rattle.fw_model.specs.declared.setting.Setting.{Setting}
+use Rattle.fw_model.specs.declared.setting.Setting.TheVariants as setting
+
+-- a packet of IPv4
+abbrev pub is_ipv4 : Packet → Bool
+is_ipv4 packet = is_v4 packet.src
+
+-- ICMP in IPv4 (protocol 1, RFC 792), and ICMPv6 in IPv6 (protocol 58, RFC 4443)
+abbrev pub is_icmpv4 : Packet → Bool
+is_icmpv4 packet = packet.proto == 1 && is_ipv4 packet
+
+abbrev pub is_icmpv6 : Packet → Bool
+is_icmpv6 packet = packet.proto == 58 && not (is_ipv4 packet)
+
+abbrev pub is_icmp : Packet → Bool
+is_icmp packet = is_icmpv4 packet || is_icmpv6 packet
+
+-- the type of an ICMP header is this number, where there is one
+abbrev pub is_type : Option ℕ → Packet → Bool
+is_type None packet = false
+is_type (Some number) packet = packet.icmp_type == number
+
+-- an ICMP packet has the type that these numbers give its family
+abbrev pub hits_numbers : Option IcmpNumbers → Packet → Bool
+hits_numbers None packet = false
+hits_numbers (Some numbers) packet = (is_icmpv4 packet && is_type numbers.v4 packet) || (is_icmpv6 packet && is_type numbers.v6 packet)
+
+-- an ICMP packet has the type of this name (firewalld.icmptype(5)); a name that isn't known has no packets
+abbrev pub hits_icmp : List ℕ → Packet → Bool
+hits_icmp name packet = hits_numbers (icmp name) packet
+
+-- the protocol, and a source port in the range (`source-port`)
+abbrev pub source_port_matches : Port → Packet → Bool
+source_port_matches port packet = packet.proto == proto_number port.proto && in_range port.range packet.sport
+
+-- Services let no packet in yet: there are none.
+abbrev pub hits_service : Config → List ℕ → Packet → Bool
+hits_service config name packet = false
+
+-- Rich rules are about no packet yet: they aren't in force.
+abbrev pub hits_rich : Config → Rich → Packet → Bool
+hits_rich config rule packet = false
+
+-- Masquerade and the forwarding of ports are for IPv4 alone.
+abbrev pub hits : Config → Setting → Packet → Bool
+hits config (setting.Service name) packet = hits_service config name packet
+hits config (setting.Port port) packet = port_matches port packet
+hits config (setting.Protocol protocol) packet = packet.proto == protocol
+hits config (setting.SourcePort port) packet = source_port_matches port packet
+hits config (setting.IcmpBlock name) packet = hits_icmp name packet
+hits config setting.Masquerade packet = is_ipv4 packet
+hits config (setting.Forward forward) packet = is_ipv4 packet && port_matches forward.port packet
+hits config (setting.Rich rule) packet = hits_rich config rule packet

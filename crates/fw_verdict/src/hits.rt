@@ -1,0 +1,75 @@
+//! Which packets a setting is about.
+ghost use Rattle.std.specs.Prelude.{◌≡◌};
+ghost use Rattle.fw_model.specs.Ports.{port_matches};
+ghost use Rattle.fw_verdict.specs.Hits.{hits_icmp, hits_service, is_icmp, is_icmpv4, is_icmpv6, is_ipv4, is_type, source_port_matches};
+
+use crate::sources::is_v4;
+use fw_addr::icmp_numbers;
+use fw_model::{Config, Packet, Port};
+
+/// The numbers of ICMP and ICMPv6 in an IP header.
+const ICMP: u8 = 1;
+
+const ICMPV6: u8 = 58;
+
+fn is_icmpv4(packet: &Packet) -> bool
+    ensures { result ≡ is_icmpv4 packet.now }
+{
+    packet.proto.0 == ICMP && is_v4(packet.src)
+}
+
+fn is_icmpv6(packet: &Packet) -> bool
+    ensures { result ≡ is_icmpv6 packet.now }
+{
+    packet.proto.0 == ICMPV6 && !is_v4(packet.src)
+}
+
+/// Whether a packet is of ICMP in IPv4, or of ICMPv6 in IPv6.
+pub fn is_icmp(packet: &Packet) -> bool
+    ensures { result ≡ is_icmp packet.now }
+{
+    is_icmpv4(packet) || is_icmpv6(packet)
+}
+
+fn is_type(number: Option<u8>, packet: &Packet) -> bool
+    ensures { result ≡ is_type number packet.now }
+{
+    match number {
+        None => false,
+        Some(number) => packet.icmp_type == number,
+    }
+}
+
+/// Whether a packet has the ICMP type of a name.
+pub fn hits_icmp(name: &str, packet: &Packet) -> bool
+    ensures { result ≡ hits_icmp name.now packet.now }
+{
+    match icmp_numbers(name) {
+        None => false,
+        Some(numbers) => {
+            (is_icmpv4(packet) && is_type(numbers.v4, packet))
+                || (is_icmpv6(packet) && is_type(numbers.v6, packet))
+        }
+    }
+}
+
+/// Whether a packet has the protocol, and a destination port in the range.
+pub fn port_matches(port: &Port, packet: &Packet) -> bool
+    ensures { result ≡ port_matches port.now packet.now }
+{
+    packet.proto == port.proto.proto() && port.range.contains(packet.dport)
+}
+
+/// Whether a packet has the protocol, and a source port in the range.
+pub fn source_port_matches(port: &Port, packet: &Packet) -> bool
+    ensures { result ≡ source_port_matches port.now packet.now }
+{
+    packet.proto == port.proto.proto() && port.range.contains(packet.sport)
+}
+
+/// Whether a service is about a packet: there are no services yet.
+pub fn hits_service(_config: &Config, _name: &str, _packet: &Packet) -> bool
+    ensures { result ≡ hits_service _config.now _name.now _packet.now }
+{
+    false
+}

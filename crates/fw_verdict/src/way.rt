@@ -1,0 +1,185 @@
+//! The way of a packet through the firewall.
+ghost use Rattle.std.specs.Prelude.{◌≡◌, codes, IfOk, unwrap_or};
+ghost use Rattle.std.specs.List.{find};
+ghost use Rattle.std.specs.Option.{option_copied};
+ghost use Rattle.fw_addr.specs.Subnets.{in_net};
+ghost use Rattle.fw_model.specs.Packets.{came_by};
+ghost use Rattle.fw_model.specs.declared.packet.Via.TheVariants as via;
+ghost use Rattle.fw_verdict.specs.Walk.{silently, walk};
+ghost use Rattle.fw_verdict.specs.Way.{decided_as, early_items, filtered, forwarded, is_invalid, is_known, panicked, route, stays_within, target_forwarded, target_to_host, to_host, way};
+
+use crate::bindings::{egress, ingress};
+use crate::hits::is_icmp;
+use crate::items::{REJECT, zone_walk};
+use fw_addr::{CtState, Net};
+use fw_base::{Memory, Seq};
+use fw_model::{Config, Origin, Outcome, Packet, Runtime, Verdict, Via, Zone, ZoneTarget};
+use std::alloc::Global;
+
+/// What becomes of a packet under the settings in force (firewalld.zone(5)): its verdict, its mark, the translation of its
+/// destination, whether it is masqueraded, and the lines that are logged.
+///
+/// Refuses for want of memory alone.
+pub fn verdict(alloc: Global, runtime: &Runtime, packet: &Packet) -> Result<Outcome, Memory>
+    ensures { IfOk result (λ outcome. outcome ≡ way runtime.now packet.now) }
+{
+    let verdict = if runtime.panic {
+        Verdict::Drop
+    } else {
+        filtered(&runtime.config, packet)
+    };
+    Ok(Outcome {
+        verdict,
+        mark: packet.mark,
+        dnat: None,
+        masquerade: false,
+        logs: Seq::new(alloc),
+    })
+}
+
+/// The first route whose net holds the destination.
+fn first_route(packet: &Packet) -> Option<&(Net, Via)>
+    ensures { option_copied result ≡ find (λ entry. in_net entry.0 packet.now.dst) packet.now.routes }
+{
+    packet
+        .routes
+        .as_slice()
+        .iter()
+        .find(|entry| entry.0.contains(&packet.dst))
+}
+
+/// Where the first route that holds the destination leads. None: no route does.
+fn route(packet: &Packet) -> Option<&Via>
+    ensures { unwrap_or (option_copied result) via.Local ≡ route packet.now }
+{
+    match first_route(packet) {
+        Some(entry) => Some(&entry.1),
+        None => None,
+    }
+}
+
+fn filtered(config: &Config, packet: &Packet) -> Verdict
+    ensures { filtered config.now packet.now packet.now.origin (route packet.now) ≡ decided_as result }
+{
+    match &packet.origin {
+        Origin::Host => Verdict::Accept,
+        Origin::Link(_) => match route(packet) {
+            Some(Via::Link(name)) => forwarded(config, packet, name.as_str()),
+            Some(Via::Local) => to_host(config, packet),
+            None => to_host(config, packet),
+        },
+    }
+}
+
+fn is_known(state: CtState) -> bool
+    ensures { result ≡ is_known state }
+{
+    match state {
+        CtState::Established => true,
+        CtState::Related => true,
+        _ => false,
+    }
+}
+
+fn is_invalid(state: CtState) -> bool
+    ensures { result ≡ is_invalid state }
+{
+    match state {
+        CtState::Invalid => true,
+        _ => false,
+    }
+}
+
+fn came_by_lo(origin: &Origin) -> bool
+    ensures { result ≡ came_by (codes "lo") origin.now }
+{
+    match origin {
+        Origin::Host => false,
+        Origin::Link(name) => name.as_str() == "lo",
+    }
+}
+
+/// What is decided of a packet to the host or through it without any zone's settings.
+fn early(packet: &Packet) -> Option<Verdict>
+    ensures { walk early_items packet.now ≡ silently result }
+{
+    if is_known(packet.state) || packet.dnat || came_by_lo(&packet.origin) {
+        Some(Verdict::Accept)
+    } else if is_invalid(packet.state) {
+        Some(Verdict::Drop)
+    } else {
+        None
+    }
+}
+
+fn target_to_host(target: ZoneTarget, packet: &Packet) -> Verdict
+    ensures { result ≡ target_to_host target packet.now }
+{
+    match target {
+        ZoneTarget::Accept => Verdict::Accept,
+        ZoneTarget::Drop => Verdict::Drop,
+        ZoneTarget::Reject => REJECT,
+        ZoneTarget::Default => {
+            if is_icmp(packet) {
+                Verdict::Accept
+            } else {
+                REJECT
+            }
+        }
+    }
+}
+
+fn to_host(config: &Config, packet: &Packet) -> Verdict
+    ensures { to_host config.now packet.now ≡ decided_as result }
+{
+    if let Some(verdict) = early(packet) {
+        return verdict;
+    }
+    let Some(zone) = ingress(config, packet) else {
+        return Verdict::Drop;
+    };
+    match zone_walk(config, zone, packet) {
+        Some(verdict) => verdict,
+        None => target_to_host(zone.target, packet),
+    }
+}
+
+/// Whether a forwarded packet stays within a zone that lets packets go from it to itself.
+fn stays_within(from: Option<&Zone>, to: Option<&Zone>) -> bool
+    ensures { result ≡ stays_within (option_copied from.entry) (option_copied to.entry) }
+{
+    let Some(from) = from else {
+        return false;
+    };
+    match to {
+        Some(to) => from.name.as_str() == to.name.as_str() && from.forward,
+        None => false,
+    }
+}
+
+fn target_forwarded(target: ZoneTarget) -> Verdict
+    ensures { result ≡ target_forwarded target }
+{
+    match target {
+        ZoneTarget::Accept => Verdict::Accept,
+        ZoneTarget::Drop => Verdict::Drop,
+        ZoneTarget::Reject => REJECT,
+        ZoneTarget::Default => REJECT,
+    }
+}
+
+fn forwarded(config: &Config, packet: &Packet, name: &str) -> Verdict
+    ensures { forwarded config.now packet.now name.now ≡ decided_as result }
+{
+    if let Some(verdict) = early(packet) {
+        return verdict;
+    }
+    let from = ingress(config, packet);
+    if stays_within(from, egress(config, packet, name)) {
+        return Verdict::Accept;
+    }
+    match from {
+        Some(zone) => target_forwarded(zone.target),
+        None => Verdict::Drop,
+    }
+}
