@@ -5,7 +5,7 @@ use Rattle.std.specs.Str.{bytes_eq}
 use Rattle.fw_text.specs.Names.{named}
 use Rattle.fw_text.specs.Steps.{◌>>=◌}
 use Rattle.fw_call.specs.Members.{members}
-use Rattle.fw_call.specs.Reading.{Read, at_end, next}
+use Rattle.fw_words.specs.Reading.{Read, at_end, next}
 use Rattle.fw_call.specs.declared.call.BindingWord.{BindingWord}
 use Rattle.fw_call.specs.declared.call.Call.{Call}
 use Rattle.fw_call.specs.declared.call.Call.TheVariants as call

@@ -1,6 +1,6 @@
 //! Reading what follows the word `call` and the client's number.
 ghost use Rattle.fw_call.specs.Calls.{arguments, binding_call, call_of, change_zone_call, inversion_call, setting_call, setting_words, timeout, zone_of_call};
-ghost use Rattle.fw_call.specs.Reading.{Reads, Says};
+ghost use Rattle.fw_words.specs.Reading.{Reads, Says};
 ghost use Rattle.std.specs.Prelude.{◌≡◌, Some, None, MatchResult};
 
 use super::member::read_member;

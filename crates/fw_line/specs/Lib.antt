@@ -1,6 +1,3 @@
-pub mod Calls
+pub mod Asked
 pub mod Line
 pub mod OutcomeText
-pub mod Outcomes
-pub mod Packets
-pub mod Reading

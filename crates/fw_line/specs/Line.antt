@@ -2,18 +2,41 @@
 use Rattle.std.specs.Prelude.{ℕ, ◌==◌, Bool, true, not, if◌then◌else◌, codes, List, [], ◌∷◌, Option, None, Some}
 use Rattle.std.specs.Option.{option_map}
 use Rattle.std.specs.Str.{bytes_eq, is_utf8}
+use Rattle.fw_text.specs.Number.{number_to}
 use Rattle.fw_text.specs.Steps.{◌>>=◌}
+use Rattle.fw_words.specs.Reading.{Read, at_end, next}
 use Rattle.fw_words.specs.Words.{words}
-use Rattle.fw_line.specs.Calls.{call_of}
-use Rattle.fw_line.specs.Packets.{packet_of}
+use Rattle.fw_call.specs.Calls.{call_of}
+use Rattle.fw_packet.specs.Packets.{packet_of}
 use Rattle.fw_line.specs.declared.line.Line.{Line}
 use Rattle.fw_line.specs.declared.line.Line.TheVariants as line
 
--- by its first word a line is a call or a packet
+-- the number of a client, up to 9999
+abbrev pub client : List (List ℕ) → Option (Read ℕ)
+client words = do
+  word ← next words
+  number ← number_to 9999 word.0
+  Some (number, word.1)
+
+-- `call CLIENT MEMBER ARGUMENTS`
+unfoldable pub call_line : List (List ℕ) → Option Line
+call_line words = do
+  client ← client words
+  call ← call_of client.1
+  Some (line.Call client.0 call)
+
+-- `end CLIENT`
+unfoldable pub end_line : List (List ℕ) → Option Line
+end_line words = do
+  client ← client words
+  at_end (line.End client.0) client.1
+
+-- by its first word a line is a call, the end of a session or a packet
 unfoldable pub line_of_words : List (List ℕ) → Option Line
 line_of_words [] = None
 line_of_words (word ∷ words) =
-    if bytes_eq word (codes "call") then option_map line.Call (call_of words)
+    if bytes_eq word (codes "call") then call_line words
+    else if bytes_eq word (codes "end") then end_line words
     else if bytes_eq word (codes "packet") then option_map line.Packet (packet_of words)
     else None
 

@@ -1,5 +1,5 @@
 //! What the lines of a script say.
-use fw_base::Text;
+use fw_call::Call;
 use fw_model::Packet;
 
 /// A line of a script.
@@ -7,15 +7,10 @@ use fw_model::Packet;
 pub enum Line {
     /// An empty line or a comment.
     Skip,
-    /// A call of a client.
-    Call(Call),
+    /// A call of a client, which has a number from 0 to 9999.
+    Call { client: u16, call: Call },
+    /// The end of a client's session.
+    End { client: u16 },
     /// A packet that is asked about.
     Packet(Packet),
-}
-
-/// A call of firewalld's D-Bus interface, with its arguments as they came.
-#[derive(Drop)]
-pub enum Call {
-    /// `addPort` of the zone `public`, without a timeout.
-    ZoneAddPort { port: Text, protocol: Text },
 }

@@ -1,20 +1,23 @@
 //! Reading a line of a script.
-ghost use Rattle.std.specs.Prelude.{◌≡◌, if◌then◌else◌, None, Some, IfOk};
+ghost use Rattle.std.specs.Prelude.{◌≡◌, if◌then◌else◌, None, Some, IfOk, MatchResult};
 ghost use Rattle.std.specs.Option.{option_copied};
 ghost use Rattle.std.specs.Str.{is_utf8};
-ghost use Rattle.fw_line.specs.Line.{is_skipped, line_of, line_of_words};
-ghost use Rattle.fw_line.specs.Outcomes.{IsAsked, Says};
+ghost use Rattle.fw_words.specs.Keys.{texts};
+ghost use Rattle.fw_words.specs.Reading.{Reads, Says};
+ghost use Rattle.fw_line.specs.Asked.{IsAsked};
+ghost use Rattle.fw_line.specs.Line.{call_line, client, end_line, is_skipped, line_of, line_of_words};
 
 use super::Line;
-use super::calls::read_call;
-use super::packets::read_packet;
+use fw_call::read_call;
+use fw_packet::read_packet;
+use fw_text::read_number;
 use fw_words::{LineError, Words, split_words};
 use std::alloc::Global;
 
 /// Reads a line, which comes without its LF.
 ///
-/// BadLine is answered exactly for a line outside the grammar. A packet comes by an interface, between IPv4 addresses,
-/// and has ports.
+/// BadLine is answered exactly for a line outside the grammar. A packet is one that there is, and came by an interface whose
+/// name has no `+`.
 #[tactic(auto, unfolding(crate::specs::Line::line_of))]
 pub fn read_line(alloc: Global, line: &[u8]) -> Result<Line, LineError>
     ensures says { Says result (line_of line.now) }
@@ -27,7 +30,7 @@ pub fn read_line(alloc: Global, line: &[u8]) -> Result<Line, LineError>
         return Ok(Line::Skip);
     }
     let words = split_words(alloc, text)?;
-    read_words(alloc, &mut Words::of(words.as_slice()))
+    read_words(alloc, words.as_slice())
 }
 
 /// Bytes as text, where they are UTF-8.
@@ -50,15 +53,50 @@ fn is_skipped(line: &[u8]) -> bool
     }
 }
 
-/// A call or a packet, by its words.
+/// What a line says, by its words.
 #[tactic(auto, unfolding(crate::specs::Line::line_of_words))]
-fn read_words(alloc: Global, words: &mut Words) -> Result<Line, LineError>
-    ensures says { Says result (line_of_words words.old) }
+fn read_words(alloc: Global, words: &[&str]) -> Result<Line, LineError>
+    ensures says { Says result (line_of_words (texts words.now)) }
     ensures asked { IfOk result IsAsked }
 {
-    match words.next()? {
-        "call" => Ok(Line::Call(read_call(alloc, words)?)),
-        "packet" => Ok(Line::Packet(read_packet(alloc, words)?)),
+    let [kind, rest @ ..] = words else {
+        return Err(LineError::BadLine);
+    };
+    match *kind {
+        "call" => read_call_line(alloc, &mut Words::of(rest)),
+        "end" => read_end_line(&mut Words::of(rest)),
+        "packet" => Ok(Line::Packet(read_packet(alloc, rest)?)),
         _ => Err(LineError::BadLine),
+    }
+}
+
+#[tactic(auto, unfolding(crate::specs::Line::call_line))]
+fn read_call_line(alloc: Global, words: &mut Words) -> Result<Line, LineError>
+    ensures says { Says result (call_line words.old) }
+    ensures asked { IfOk result IsAsked }
+{
+    let client = read_client(words)?;
+    let call = read_call(alloc, words)?;
+    Ok(Line::Call { client, call })
+}
+
+#[tactic(auto, unfolding(crate::specs::Line::end_line))]
+fn read_end_line(words: &mut Words) -> Result<Line, LineError>
+    ensures says { Says result (end_line words.old) }
+    ensures asked { IfOk result IsAsked }
+{
+    let client = read_client(words)?;
+    words.end()?;
+    Ok(Line::End { client })
+}
+
+/// Takes the number of a client.
+fn read_client(words: &mut Words) -> Result<u16, LineError>
+    ensures { Reads result words.new (client words.old) }
+{
+    let word = words.next()?;
+    match read_number(word.as_bytes(), 9_999) {
+        Some(number) => Ok(number as u16),
+        None => Err(LineError::BadLine),
     }
 }

@@ -1,0 +1,6 @@
+//! The texts of limits.
+#![tactic(auto)]
+
+mod limit;
+
+pub use limit::read_limit;

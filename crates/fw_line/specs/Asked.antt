@@ -1,0 +1,18 @@
+-- What a line asks about.
+use Rattle.std.specs.Prelude.{IsTrue}
+use Rattle.fw_model.specs.Packets.{IsPacket, has_plain_link}
+use Rattle.fw_model.specs.declared.packet.Packet.{Packet}
+use Rattle.fw_line.specs.declared.line.Line.{Line}
+use Rattle.fw_line.specs.declared.line.Line.TheVariants as line
+
+-- The packets that a line asks about: one that there is, which came by an interface whose name has no `+`.
+pub record IsAskedPacket (packet : Packet) : Type 0 where
+  pub is_packet : IsPacket packet
+  pub by_link : IsTrue (has_plain_link packet.origin)
+
+-- A line asks about such a packet, or about none.
+abbrev pub IsAsked : Line → Type 0
+IsAsked line.Skip = Unit {0}
+IsAsked (line.Call client call) = Unit {0}
+IsAsked (line.End client) = Unit {0}
+IsAsked (line.Packet packet) = IsAskedPacket packet
