@@ -1,2 +1,4 @@
 pub mod Configs
+pub mod Known
+pub mod Services
 pub mod Zones

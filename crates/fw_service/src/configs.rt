@@ -2,13 +2,13 @@
 ghost use Rattle.std.specs.Prelude.{◌≡◌, IfOk};
 ghost use Rattle.fw_service.specs.Configs.{built_in_config};
 
-use super::built_in_zones;
+use super::{built_in_services, built_in_zones};
 use fw_base::{Memory, Seq, Text};
 use fw_model::{Config, LogDenied};
 use std::alloc::Global;
 
-/// The configuration that there is from the start: the built-in zones with `public` as the default zone. Denied packets
-/// aren't logged.
+/// The configuration that there is from the start: the built-in zones with `public` as the default zone, and the
+/// built-in services. Denied packets aren't logged.
 ///
 /// Refuses for want of memory alone.
 pub fn built_in_config(alloc: Global) -> Result<Config, Memory>
@@ -19,7 +19,7 @@ pub fn built_in_config(alloc: Global) -> Result<Config, Memory>
         log_denied: LogDenied::Off,
         zones: built_in_zones(alloc)?,
         policies: Seq::new(alloc),
-        services: Seq::new(alloc),
+        services: built_in_services(alloc)?,
         ipsets: Seq::new(alloc),
     })
 }

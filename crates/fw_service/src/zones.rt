@@ -1,7 +1,8 @@
 //! The built-in zones.
-ghost use Rattle.std.specs.Prelude.{◌≡◌, IfOk};
-ghost use Rattle.fw_service.specs.Zones.{built_in_zones, no_notes, no_rules, plain_zone};
+ghost use Rattle.std.specs.Prelude.{◌≡◌, IfOk, map};
+ghost use Rattle.fw_service.specs.Zones.{built_in_zones, no_notes, rules_of, zone};
 
+use super::texts::texts;
 use fw_base::{Memory, Seq, Text};
 use fw_model::{Notes, Rules, Zone, ZoneTarget};
 use std::alloc::Global;
@@ -12,33 +13,36 @@ use std::alloc::Global;
 pub fn built_in_zones(alloc: Global) -> Result<Seq<Zone>, Memory>
     ensures { IfOk result (λ zones. zones ≡ built_in_zones) }
 {
+    let home = &["ssh", "mdns", "samba-client", "dhcpv6-client"];
+    let work = &["ssh", "dhcpv6-client"];
     let mut zones = Seq::new(alloc);
-    zones.push(plain_zone(alloc, "block", ZoneTarget::Reject, false)?)?;
-    zones.push(plain_zone(alloc, "dmz", ZoneTarget::Default, false)?)?;
-    zones.push(plain_zone(alloc, "drop", ZoneTarget::Drop, false)?)?;
-    zones.push(plain_zone(alloc, "external", ZoneTarget::Default, true)?)?;
-    zones.push(plain_zone(alloc, "home", ZoneTarget::Default, false)?)?;
-    zones.push(plain_zone(alloc, "internal", ZoneTarget::Default, false)?)?;
-    zones.push(plain_zone(alloc, "public", ZoneTarget::Default, false)?)?;
-    zones.push(plain_zone(alloc, "trusted", ZoneTarget::Accept, false)?)?;
-    zones.push(plain_zone(alloc, "work", ZoneTarget::Default, false)?)?;
+    zones.push(zone(alloc, "block", ZoneTarget::Reject, &[], false)?)?;
+    zones.push(zone(alloc, "dmz", ZoneTarget::Default, &["ssh"], false)?)?;
+    zones.push(zone(alloc, "drop", ZoneTarget::Drop, &[], false)?)?;
+    zones.push(zone(alloc, "external", ZoneTarget::Default, &["ssh"], true)?)?;
+    zones.push(zone(alloc, "home", ZoneTarget::Default, home, false)?)?;
+    zones.push(zone(alloc, "internal", ZoneTarget::Default, home, false)?)?;
+    zones.push(zone(alloc, "public", ZoneTarget::Default, work, false)?)?;
+    zones.push(zone(alloc, "trusted", ZoneTarget::Accept, &[], false)?)?;
+    zones.push(zone(alloc, "work", ZoneTarget::Default, work, false)?)?;
     Ok(zones)
 }
 
 /// A zone with no setting but these, that lets packets go from it to itself.
-fn plain_zone(
+fn zone(
     alloc: Global,
     name: &str,
     target: ZoneTarget,
+    services: &[&str],
     masquerade: bool,
 ) -> Result<Zone, Memory>
-    ensures { IfOk result (λ zone. zone ≡ plain_zone name.now target masquerade) }
+    ensures { IfOk result (λ made. made ≡ zone name.now target (map (λ text. text.now) services.now) masquerade) }
 {
     Ok(Zone {
         name: Text::of(alloc, name)?,
         notes: no_notes(alloc)?,
         target,
-        rules: no_rules(alloc, masquerade),
+        rules: rules_of(alloc, texts(alloc, services)?, masquerade),
         inversion: false,
         forward: true,
         interfaces: Seq::new(alloc),
@@ -56,11 +60,11 @@ fn no_notes(alloc: Global) -> Result<Notes, Memory>
     })
 }
 
-fn no_rules(alloc: Global, masquerade: bool) -> Rules
-    ensures { result ≡ no_rules masquerade }
+fn rules_of(alloc: Global, services: Seq<Text>, masquerade: bool) -> Rules
+    ensures { result ≡ rules_of services masquerade }
 {
     Rules {
-        services: Seq::new(alloc),
+        services,
         ports: Seq::new(alloc),
         protocols: Seq::new(alloc),
         source_ports: Seq::new(alloc),

@@ -12,5 +12,7 @@ mod sources;
 pub use bindings::BindError;
 pub use fw_model::Setting;
 pub use interfaces::{bind_iface, move_iface, unbind_iface, zone_of_iface};
+pub use lists::{add_item, contains, place_of, remove_item};
+pub use same::Same;
 pub use settings::{AddError, NotEnabled, add, has, remove};
 pub use sources::{bind_source, move_source, unbind_source, zone_of_source};

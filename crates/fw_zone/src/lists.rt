@@ -1,4 +1,4 @@
-//! Items in lists.
+//! Items in lists, by their places.
 ghost use Rattle.std.specs.Prelude.{◌≡◌, ◌↔◌, ◌∷◌, [], ◌++◌, IsTrue, IfSome, IsErr, IsSome, OnOk, OnErr, Err};
 ghost use Rattle.fw_zone.specs.Lists.{IsFirstPlace, IsIn, IsRemoved};
 
@@ -19,13 +19,16 @@ pub fn place_of<T: Same>(items: &[T], item: &T) -> Option<usize>
     None
 }
 
+/// Whether an item stands in a list.
 pub fn contains<T: Same>(items: &[T], item: &T) -> bool
     ensures { IsTrue result ↔ IsIn item.now items.now }
 {
     place_of(items, item).is_some()
 }
 
-/// Appends an item that isn't there yet.
+/// Appends an item.
+///
+/// Refuses one that is there already, and for want of memory; the list is then as before.
 pub fn add_item<T: Same + Drop>(items: &mut Seq<T>, item: T) -> Result<(), AddError>
     ensures added { OnOk result (items.new ≡ items.old ++ item ∷ []) }
     ensures already { (result ≡ Err AddError.AlreadyEnabled) ↔ IsIn item items.old }
@@ -40,7 +43,9 @@ pub fn add_item<T: Same + Drop>(items: &mut Seq<T>, item: T) -> Result<(), AddEr
     }
 }
 
-/// Takes an item out of its list.
+/// Takes an item out of its list; those behind it move up. It takes no memory.
+///
+/// Refuses one that isn't there; the list is then as before.
 #[tactic(auto, using(crate::proofs::Items::removed_at))]
 pub fn remove_item<T: Same + Drop>(items: &mut Seq<T>, item: &T) -> Result<(), NotEnabled>
     ensures removed { OnOk result (IsRemoved item.now items.old items.new) }

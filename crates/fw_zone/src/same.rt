@@ -3,7 +3,7 @@ ghost use Rattle.std.specs.Prelude.{◌≡◌, ◌↔◌, IsTrue};
 
 use fw_addr::{Iface, Proto};
 use fw_base::Text;
-use fw_model::{Action, Binding, Element, Forward, Limit, Port, Rich, RichLog, Side};
+use fw_model::{Action, Binding, Element, Forward, Item, Limit, Port, Rich, RichLog, Side};
 
 /// Items that are compared as values.
 pub trait Same {
@@ -110,6 +110,12 @@ impl Same for Iface {
 
 impl Same for Binding {
     fn same(&self, other: &Binding) -> bool {
+        self == other
+    }
+}
+
+impl Same for Item {
+    fn same(&self, other: &Item) -> bool {
         self == other
     }
 }

@@ -1,0 +1,6 @@
+-- The texts so far are made.
+use Rattle.std.proofs.Common.{◌≡◌, map, take}
+use Rattle.fw_service.proofs.texts.texts.Given as goal
+
+abbrev pub invariant-loop-text : goal.invariant-loop-text
+invariant-loop-text l = l.made ≡ map (λ text. text.now) (take l.text-index l.texts)
