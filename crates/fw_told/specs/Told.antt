@@ -1,10 +1,11 @@
 -- The lines that tell a client of signals and replies (firewalld.dbus(5), its signals and the error
 -- `org.fedoraproject.FirewallD1.Exception`; the spelling of the lines is this project's own).
-use Rattle.std.specs.Prelude.{ℕ, codes, decimal, List, [], ◌∷◌, ◌++◌}
+use Rattle.std.specs.Prelude.{ℕ, codes, decimal, if◌then◌else◌, List, [], ◌∷◌, ◌++◌}
 use Rattle.std.specs.List.{flat_map}
 use Rattle.fw_model.specs.Codes.{code_name}
 use Rattle.fw_model.specs.declared.code.Code.{Code}
 use Rattle.fw_quote.specs.Quoted.{quoted}
+use Rattle.fw_told.specs.Lists.{active_zones_text, texts_text}
 use Rattle.fw_told.specs.declared.told.Reply.{Reply}
 use Rattle.fw_told.specs.declared.told.Reply.TheVariants as reply
 use Rattle.fw_told.specs.declared.told.Signal.{Signal}
@@ -13,16 +14,35 @@ use Rattle.fw_told.specs.declared.told.SignalKind.TheVariants as signal
 use Rattle.fw_told.specs.declared.told.Value.{Value}
 use Rattle.fw_told.specs.declared.told.Value.TheVariants as value
 
--- a value behind a blank: a text in quotes, a number in decimal
+-- a value behind a blank: a text in quotes, a number in decimal, whether something holds, a list or a dict
 abbrev pub value_text : Value → List ℕ
 value_text (value.Text text) = 32 ∷ quoted text
 value_text (value.Number number) = 32 ∷ decimal number
+value_text (value.Bool flag) = if flag then codes " true" else codes " false"
+value_text (value.Texts texts) = 32 ∷ texts_text texts
+value_text (value.ActiveZones zones) = 32 ∷ active_zones_text zones
 
 abbrev pub values_text : List Value → List ℕ
 values_text values = flat_map value_text values
 
+-- the name of a signal: its interface's name in scripts, a dot and its own
 abbrev pub signal_name : SignalKind → List ℕ
 signal_name signal.ZonePortAdded = codes "zone.PortAdded"
+signal_name signal.ZonePortRemoved = codes "zone.PortRemoved"
+signal_name signal.ZoneSourcePortAdded = codes "zone.SourcePortAdded"
+signal_name signal.ZoneSourcePortRemoved = codes "zone.SourcePortRemoved"
+signal_name signal.ZoneProtocolAdded = codes "zone.ProtocolAdded"
+signal_name signal.ZoneProtocolRemoved = codes "zone.ProtocolRemoved"
+signal_name signal.ZoneIcmpBlockAdded = codes "zone.IcmpBlockAdded"
+signal_name signal.ZoneIcmpBlockRemoved = codes "zone.IcmpBlockRemoved"
+signal_name signal.ZoneIcmpBlockInversionAdded = codes "zone.IcmpBlockInversionAdded"
+signal_name signal.ZoneIcmpBlockInversionRemoved = codes "zone.IcmpBlockInversionRemoved"
+signal_name signal.ZoneInterfaceAdded = codes "zone.InterfaceAdded"
+signal_name signal.ZoneInterfaceRemoved = codes "zone.InterfaceRemoved"
+signal_name signal.ZoneSourceAdded = codes "zone.SourceAdded"
+signal_name signal.ZoneSourceRemoved = codes "zone.SourceRemoved"
+signal_name signal.ZoneOfInterfaceChanged = codes "zone.ZoneOfInterfaceChanged"
+signal_name signal.ZoneOfSourceChanged = codes "zone.ZoneOfSourceChanged"
 
 -- the line of a signal
 unfoldable pub signal_line : (client : ℕ) → Signal → List ℕ

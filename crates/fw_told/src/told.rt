@@ -3,6 +3,7 @@ ghost use Rattle.std.specs.Prelude.{◌≡◌, ◌++◌, IfOk, OnOk, string_byte
 ghost use Rattle.std.specs.List.{flat_map};
 ghost use Rattle.fw_told.specs.Told.{exception_text, reason_text, reply_line, reply_text, signal_line, signal_name, value_text, values_text};
 
+use super::lists::{push_active_zones, push_texts};
 use fw_base::{Memory, Seq, Text};
 use fw_model::Code;
 use fw_quote::push_quoted;
@@ -13,13 +14,55 @@ use std::alloc::Global;
 pub enum Value {
     Text(Text),
     Number(u32),
+    Bool(bool),
+    Texts(Seq<Text>),
+    /// A dict of zones by their names, in ascending order.
+    ActiveZones(Seq<Active>),
 }
 
-/// The kinds of signals (firewalld.dbus(5)).
+/// A zone to which packets belong, with the texts of its interfaces and of its sources.
+#[derive(Drop)]
+pub struct Active {
+    pub name: Text,
+    pub interfaces: Seq<Text>,
+    pub sources: Seq<Text>,
+}
+
+/// The kinds of signals of the interface `zone`, with what each carries (firewalld.dbus(5), "Signals").
 #[derive(Clone, Copy, Debug, PartialEq, Eq)]
 pub enum SignalKind {
-    /// `PortAdded` of the interface `zone`: zone, port, protocol, timeout.
+    /// `PortAdded`: zone, port, protocol, timeout.
     ZonePortAdded,
+    /// `PortRemoved`: zone, port, protocol.
+    ZonePortRemoved,
+    /// `SourcePortAdded`: zone, port, protocol, timeout.
+    ZoneSourcePortAdded,
+    /// `SourcePortRemoved`: zone, port, protocol.
+    ZoneSourcePortRemoved,
+    /// `ProtocolAdded`: zone, protocol, timeout.
+    ZoneProtocolAdded,
+    /// `ProtocolRemoved`: zone, protocol.
+    ZoneProtocolRemoved,
+    /// `IcmpBlockAdded`: zone, ICMP type, timeout.
+    ZoneIcmpBlockAdded,
+    /// `IcmpBlockRemoved`: zone, ICMP type.
+    ZoneIcmpBlockRemoved,
+    /// `IcmpBlockInversionAdded`: zone.
+    ZoneIcmpBlockInversionAdded,
+    /// `IcmpBlockInversionRemoved`: zone.
+    ZoneIcmpBlockInversionRemoved,
+    /// `InterfaceAdded`: zone, interface.
+    ZoneInterfaceAdded,
+    /// `InterfaceRemoved`: zone, interface.
+    ZoneInterfaceRemoved,
+    /// `SourceAdded`: zone, source.
+    ZoneSourceAdded,
+    /// `SourceRemoved`: zone, source.
+    ZoneSourceRemoved,
+    /// `ZoneOfInterfaceChanged`: zone, interface.
+    ZoneOfInterfaceChanged,
+    /// `ZoneOfSourceChanged`: zone, source.
+    ZoneOfSourceChanged,
 }
 
 /// A signal: something changed.
@@ -44,6 +87,21 @@ impl SignalKind {
     {
         match self {
             SignalKind::ZonePortAdded => "zone.PortAdded",
+            SignalKind::ZonePortRemoved => "zone.PortRemoved",
+            SignalKind::ZoneSourcePortAdded => "zone.SourcePortAdded",
+            SignalKind::ZoneSourcePortRemoved => "zone.SourcePortRemoved",
+            SignalKind::ZoneProtocolAdded => "zone.ProtocolAdded",
+            SignalKind::ZoneProtocolRemoved => "zone.ProtocolRemoved",
+            SignalKind::ZoneIcmpBlockAdded => "zone.IcmpBlockAdded",
+            SignalKind::ZoneIcmpBlockRemoved => "zone.IcmpBlockRemoved",
+            SignalKind::ZoneIcmpBlockInversionAdded => "zone.IcmpBlockInversionAdded",
+            SignalKind::ZoneIcmpBlockInversionRemoved => "zone.IcmpBlockInversionRemoved",
+            SignalKind::ZoneInterfaceAdded => "zone.InterfaceAdded",
+            SignalKind::ZoneInterfaceRemoved => "zone.InterfaceRemoved",
+            SignalKind::ZoneSourceAdded => "zone.SourceAdded",
+            SignalKind::ZoneSourceRemoved => "zone.SourceRemoved",
+            SignalKind::ZoneOfInterfaceChanged => "zone.ZoneOfInterfaceChanged",
+            SignalKind::ZoneOfSourceChanged => "zone.ZoneOfSourceChanged",
         }
     }
 }
@@ -129,6 +187,15 @@ fn push_value(out: &mut String, value: &Value) -> Result<(), Memory>
             push_quoted(out, text.as_str())?;
         }
         Value::Number(number) => write!(out, " {number}")?,
+        Value::Bool(flag) => out.push_str(if *flag { " true" } else { " false" })?,
+        Value::Texts(texts) => {
+            out.push(' ')?;
+            push_texts(out, texts.as_slice())?;
+        }
+        Value::ActiveZones(zones) => {
+            out.push(' ')?;
+            push_active_zones(out, zones.as_slice())?;
+        }
     }
     Ok(())
 }
