@@ -1,4 +1,3 @@
-use Rattle.std.proofs.Common.{refl}
 use Rattle.fw_addr.specs.Addresses.{address}
 use Rattle.fw_packet.proofs.Ends.{found_by, none_by}
 use Rattle.fw_packet.proofs.values.AddrValue.read.Goals as goal
