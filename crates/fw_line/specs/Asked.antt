@@ -1,5 +1,5 @@
 -- What a line asks about.
-use Rattle.std.specs.Prelude.{IsTrue}
+use Rattle.std.specs.Prelude.{◌<◌, IsTrue}
 use Rattle.fw_model.specs.Packets.{IsPacket, has_plain_link}
 use Rattle.fw_model.specs.declared.packet.Packet.{Packet}
 use Rattle.fw_line.specs.declared.line.Line.{Line}
@@ -10,9 +10,9 @@ pub record IsAskedPacket (packet : Packet) : Type 0 where
   pub is_packet : IsPacket packet
   pub by_link : IsTrue (has_plain_link packet.origin)
 
--- A line asks about such a packet, or about none.
+-- A line is of one of the clients 0 to 9999, asks about such a packet, or does neither.
 abbrev pub IsAsked : Line → Type 0
 IsAsked line.Skip = Unit {0}
-IsAsked (line.Call client call) = Unit {0}
-IsAsked (line.End client) = Unit {0}
+IsAsked (line.Call client call) = client < 10000
+IsAsked (line.End client) = client < 10000
 IsAsked (line.Packet packet) = IsAskedPacket packet

@@ -1,5 +1,5 @@
 //! Reading a line of a script.
-ghost use Rattle.std.specs.Prelude.{◌≡◌, if◌then◌else◌, None, Some, IfOk, MatchResult};
+ghost use Rattle.std.specs.Prelude.{◌≡◌, ◌<◌, if◌then◌else◌, None, Some, IfOk, MatchResult};
 ghost use Rattle.std.specs.Option.{option_copied};
 ghost use Rattle.std.specs.Str.{is_utf8};
 ghost use Rattle.fw_words.specs.Keys.{texts};
@@ -16,8 +16,8 @@ use std::alloc::Global;
 
 /// Reads a line, which comes without its LF.
 ///
-/// BadLine is answered exactly for a line outside the grammar. A packet is one that there is, and came by an interface whose
-/// name has no `+`.
+/// BadLine is answered exactly for a line outside the grammar. A client's number is at most 9999. A packet is one that there
+/// is, and came by an interface whose name has no `+`.
 #[tactic(auto, unfolding(crate::specs::Line::line_of))]
 pub fn read_line(alloc: Global, line: &[u8]) -> Result<Line, LineError>
     ensures says { Says result (line_of line.now) }
@@ -92,7 +92,8 @@ fn read_end_line(words: &mut Words) -> Result<Line, LineError>
 
 /// Takes the number of a client.
 fn read_client(words: &mut Words) -> Result<u16, LineError>
-    ensures { Reads result words.new (client words.old) }
+    ensures read { Reads result words.new (client words.old) }
+    ensures bounded { IfOk result (λ client. client < 10000) }
 {
     let word = words.next()?;
     match read_number(word.as_bytes(), 9_999) {

@@ -1,26 +1,24 @@
 //! The one call that the program makes.
-ghost use Rattle.std.specs.Prelude.{◌≡◌, ◌↔◌, ◌⊎◌, false, true, [], IfSome, IsNone, map};
+ghost use Rattle.std.specs.Prelude.{◌≡◌, ◌↔◌, false, true, [], IfSome, map};
 ghost use Rattle.std.specs.Option.{option_map};
 ghost use Rattle.std.specs.String.{string_bytes};
 ghost use Rattle.fw_base.specs.Causes.{Rose};
+ghost use Rattle.fw_firewall.specs.Script.{first_state, step};
 ghost use Rattle.fw_input.specs.Lines.{judged};
 ghost use Rattle.fw_script.specs.Ran.{IsUntouched, Ran, input_limit, line_limit};
 ghost use Rattle.fw_script.specs.Words.{is_run};
-ghost use Rattle.fw_script.specs.State.{IsInstalled};
 
 use super::Status;
-use super::open_ports::{FirstState, OpenPorts};
 use super::words::is_run;
-use fw_base::{Memory, Sink, Source};
+use fw_base::{Sink, Source};
+use fw_firewall::Firewall;
 use fw_run::run_script;
 use std::alloc::Global;
 
-/// What a run leaves: how it ended, and the open ports with their rules.
-#[derive(Drop)]
-pub struct FirstRan {
+/// What a run leaves: how it ended.
+#[derive(Clone, Copy, Debug, PartialEq, Eq)]
+pub struct Ran {
     pub status: Status,
-    /// Absent for Usage, and else only for want of memory.
-    pub opened: Option<FirstState>,
 }
 
 /// Runs the program on the words of its command line: `run` reads a script from the input, runs its lines as they
@@ -35,37 +33,36 @@ pub fn top_run<I: Source, O: Sink>(
     words: &[String],
     input: &mut I,
     output: &mut O,
-) -> FirstRan
+) -> Ran
     ensures usage { (result.status ≡ Status.Usage) ↔ (is_run (map string_bytes words.now) ≡ false) }
     ensures unused { result.status ≡ Status.Usage → IsUntouched (I.left input.old) (I.left input.new) (I.faults input.old) (I.faults input.new)
         × IsUntouched (O.written output.old) (O.written output.new) (O.faults output.old) (O.faults output.new) }
 
-    // The lines that ran, what was written of their text, and the ports after them.
-    ensures ran { is_run (map string_bytes words.now) ≡ true → Ran result.status (option_map (judged line_limit input_limit) (I.left input.old)) (O.written output.old) (O.written output.new) result.opened }
+    // The lines that ran, and what was written of their text.
+    ensures ran { is_run (map string_bytes words.now) ≡ true → Ran result.status (option_map (judged line_limit input_limit) (I.left input.old)) (O.written output.old) (O.written output.new) }
     ensures done { result.status ≡ Status.Done → IfSome (I.left input.new) (λ left. left ≡ []) }
     ensures read_fault { result.status ≡ Status.ReadFault → Rose (I.faults input.old) (I.faults input.new) }
     ensures write_fault { result.status ≡ Status.WriteFault → Rose (O.faults output.old) (O.faults output.new) }
-
-    // The rules in the end are those of the open ports.
-    ensures opened { IsNone result.opened → (result.status ≡ Status.Usage) ⊎ (result.status ≡ Status.Memory) }
-    ensures closed { result.status ≡ Status.Usage → IsNone result.opened }
-    ensures installed { IfSome result.opened (λ state. IsInstalled state.ports state.rules) }
 {
-    if !is_run(words) {
-        return FirstRan {
-            status: Status::Usage,
-            opened: None,
-        };
+    Ran {
+        status: if is_run(words) {
+            run(alloc, input, output)
+        } else {
+            Status::Usage
+        },
     }
-    let ran = run_script(alloc, OpenPorts::new(alloc), input, output);
-    match ran.machine.into_state(alloc) {
-        Ok(state) => FirstRan {
-            status: Status::of(ran.ended),
-            opened: Some(state),
-        },
-        Err(Memory) => FirstRan {
-            status: Status::Memory,
-            opened: None,
-        },
+}
+
+/// Runs the script of the input on the built-in settings.
+#[tactic(auto, using(crate::proofs::Nothing::nothing_ran))]
+fn run<I: Source, O: Sink>(alloc: Global, input: &mut I, output: &mut O) -> Status
+    ensures ran { Ran result (option_map (judged line_limit input_limit) (I.left input.old)) (O.written output.old) (O.written output.new) }
+    ensures done { result ≡ Status.Done → IfSome (I.left input.new) (λ left. left ≡ []) }
+    ensures read_fault { result ≡ Status.ReadFault → Rose (I.faults input.old) (I.faults input.new) }
+    ensures write_fault { result ≡ Status.WriteFault → Rose (O.faults output.old) (O.faults output.new) }
+{
+    match Firewall::new(alloc) {
+        Ok(firewall) => Status::of(run_script(alloc, firewall, input, output).ended),
+        Err(_) => Status::Memory,
     }
 }

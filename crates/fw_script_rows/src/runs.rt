@@ -1,7 +1,7 @@
 ghost use Rattle.std.specs.Prelude.{◌≤◌};
 
 use fw_base::{ListSink, ListSource};
-use fw_script::{FirstRan, Status, top_run};
+use fw_script::{Ran, Status, top_run};
 use std::alloc::{AllocError, Global};
 use std::test::Fail;
 
@@ -32,7 +32,7 @@ fn run(
     alloc: Global,
     source: &mut ListSource,
     sink: &mut ListSink,
-) -> Result<FirstRan, AllocError> {
+) -> Result<Ran, AllocError> {
     Ok(top_run(alloc, words(alloc, "run")?.as_slice(), source, sink))
 }
 
@@ -44,8 +44,6 @@ fn blames_the_end_that_failed(rt: HostRuntime) -> Result<(), Fail> {
     let ran = run(alloc, &mut source(alloc, script, 50, &[2])?, &mut sink)?;
     assert_eq!(rt; ran.status, Status::ReadFault);
     assert_eq!(rt; sink.written(), ADDED_80.as_bytes());
-    let ports = ran.opened.map(|state| state.ports.as_slice().len());
-    assert_eq!(rt; ports, Some(1));
 
     let mut sink = ListSink::new(alloc, 4096, [1u64].to_vec(alloc)?)?;
     let ran = run(alloc, &mut source(alloc, ADD_80, 4096, &[])?, &mut sink)?;
@@ -74,6 +72,6 @@ fn refuses_other_words(rt: HostRuntime) -> Result<(), Fail> {
     let mut source = source(alloc, ADD_80, 1, &[])?;
     let ran = top_run(alloc, walk.as_slice(), &mut source, &mut sink);
     assert_eq!(rt; ran.status, Status::Usage);
-    assert!(rt; ran.opened.is_none());
+    assert_eq!(rt; sink.written(), b"".as_slice());
     Ok(())
 }
