@@ -1,5 +1,5 @@
 -- The rest of a list from a place on, and what a filter and a map to lists make of it.
-use Rattle.std.proofs.Common.{◌≡◌, ◌∙◌, ℕ, zero, suc, List, [], ◌∷◌, ◌++◌, Bool, true, false, cond, Some, slice_get, drop, refl, sym, ap, subst}
+use Rattle.std.proofs.Common.{◌≡◌, ◌∙◌, ℕ, zero, suc, List, [], ◌∷◌, ◌++◌, Bool, true, false, cond, Some, slice_get, drop, ap}
 use Rattle.std.specs.List.{filter, flat_map}
 
 -- the item at the place, and then those behind it

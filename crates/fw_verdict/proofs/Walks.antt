@@ -1,12 +1,12 @@
 -- Walks of lists that are joined, and of lists whose items all decide the same.
-use Rattle.std.proofs.Common.{◌≡◌, ◌∙◌, List, [], ◌∷◌, ◌++◌, map, Bool, true, false, ◌&&◌, ◌||◌, Option, None, Some, refl, sym, ap, append_assoc}
+use Rattle.std.proofs.Common.{◌≡◌, ◌∙◌, List, [], ◌∷◌, ◌++◌, map, Bool, true, false, ◌||◌, Option, None, Some, refl, sym, ap, append_assoc}
 use Rattle.std.specs.Prelude.{if◌then◌else◌}
 use Rattle.std.specs.List.{list_any}
 use Rattle.std.specs.Option.{option_or}
 use Rattle.fw_addr.specs.declared.log.LogLine.{LogLine}
 use Rattle.fw_model.specs.declared.outcome.Verdict.{Verdict}
 use Rattle.fw_model.specs.declared.packet.Packet.{Packet}
-use Rattle.fw_verdict.specs.Walk.{Item, Walked, does, in_turn, nothing, or_then, silently, walk}
+use Rattle.fw_verdict.specs.Walk.{Item, Walked, does, nothing, or_then, silently, walk}
 use Rattle.fw_verdict.specs.Walk.Effect.{decide}
 
 -- of three, one after another

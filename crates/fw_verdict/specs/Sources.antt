@@ -1,5 +1,5 @@
 -- Which senders the sources of a zone mean (firewalld.zone(5), `source`; firewalld.ipset(5)).
-use Rattle.std.specs.Prelude.{ℕ, ◌==◌, List, Bool, true, false, not, ◌&&◌, Option, None, Some}
+use Rattle.std.specs.Prelude.{ℕ, ◌==◌, List, Bool, false, not, ◌&&◌, Option, None, Some}
 use Rattle.std.specs.List.{list_any}
 use Rattle.std.specs.Str.{bytes_eq}
 use Rattle.fw_addr.specs.Subnets.{in_net}

@@ -1,4 +1,4 @@
-use Rattle.std.proofs.Common.{◌≡◌, ◌∙◌, Some, None, sym, ap}
+use Rattle.std.proofs.Common.{◌∙◌, Some, None, sym, ap}
 use Rattle.std.specs.Prelude.{if◌then◌else◌, Bool}
 use Rattle.fw_verdict.specs.Walk.{silently}
 use Rattle.fw_verdict.specs.Way.{reject}

@@ -1,4 +1,4 @@
-use Rattle.std.proofs.Common.{◌≡◌, ◌∙◌, Some, None, ap}
+use Rattle.std.proofs.Common.{◌∙◌, Some, None, ap}
 use Rattle.fw_verdict.specs.Walk.{silently}
 use Rattle.fw_verdict.proofs.Zones.{allowed, walked}
 use Rattle.fw_verdict.proofs.items.zone_walk.Goals as goal
