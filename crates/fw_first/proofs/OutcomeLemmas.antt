@@ -39,11 +39,11 @@ accepting : (test : Bool) (behind : Verdict) → unwrap_or (if test && true then
 accepting true behind = refl
 accepting false behind = refl
 
-chain_verdict-accept_where : (packet : Packet) (test : Test) (rules : List Rule) → chain_verdict packet (accept_where test ∷ rules) ≡ either (test_holds packet test) Accept (chain_verdict packet rules)
-chain_verdict-accept_where packet test rules = accepting (test_holds packet test) (chain_verdict packet rules)
+chain_verdict-accept_where : (packet : Packet) (test : Test) (rules : List Rule) → chain_verdict [] packet (accept_where test ∷ rules) ≡ either (test_holds [] packet test) Accept (chain_verdict [] packet rules)
+chain_verdict-accept_where packet test rules = accepting (test_holds [] packet test) (chain_verdict [] packet rules)
 
 -- a rule for each port, and a reject
-chain_verdict-ports : (packet : Packet) (ports : List Port) → chain_verdict packet (map port_rule ports ++ final_rule ∷ []) ≡ either (list_any (λ port. port_matches port packet) ports) Accept (Reject IcmpxAdminProhibited)
+chain_verdict-ports : (packet : Packet) (ports : List Port) → chain_verdict [] packet (map port_rule ports ++ final_rule ∷ []) ≡ either (list_any (λ port. port_matches port packet) ports) Accept (Reject IcmpxAdminProhibited)
 chain_verdict-ports packet [] = refl
 chain_verdict-ports packet (port ∷ ports) =
     chain_verdict-accept_where packet (Dport port.proto port.range) (map port_rule ports ++ final_rule ∷ [])
@@ -55,10 +55,10 @@ came_in_by-lo : (origin : Origin) → came_in_by (codes "lo") origin ≡ came_by
 came_in_by-lo Host = refl
 came_in_by-lo (Link name) = refl
 
-chain_verdict-first_rules : (packet : Packet) (ports : List Port) → chain_verdict packet (first_rules ports) ≡ either (is_let_in ports packet) Accept (Reject IcmpxAdminProhibited)
+chain_verdict-first_rules : (packet : Packet) (ports : List Port) → chain_verdict [] packet (first_rules ports) ≡ either (is_let_in ports packet) Accept (Reject IcmpxAdminProhibited)
 chain_verdict-first_rules packet ports =
     chain_verdict-accept_where packet (In (codes "lo")) (map port_rule ports ++ final_rule ∷ [])
-    ∙ ap (λ (test : Bool). either test Accept (chain_verdict packet (map port_rule ports ++ final_rule ∷ []))) (came_in_by-lo packet.origin)
+    ∙ ap (λ (test : Bool). either test Accept (chain_verdict [] packet (map port_rule ports ++ final_rule ∷ []))) (came_in_by-lo packet.origin)
     ∙ ap (either (came_by (codes "lo") packet.origin) Accept) (chain_verdict-ports packet ports)
     ∙ either-or (came_by (codes "lo") packet.origin) (list_any (λ port. port_matches port packet) ports) Accept (Reject IcmpxAdminProhibited)
 
@@ -67,9 +67,9 @@ rules_met-by_link : (origin : Origin) (chain : Chain) → IsTrue (has_plain_link
 rules_met-by_link Host chain absent = cc
 rules_met-by_link (Link name) chain here = refl
 
-first_verdict : (packet : Packet) (ports : List Port) → IsFirstPacket packet → chain_verdict packet (rules_met packet.origin (first_chain ports)) ≡ either (is_let_in ports packet) Accept (Reject IcmpxAdminProhibited)
+first_verdict : (packet : Packet) (ports : List Port) → IsFirstPacket packet → chain_verdict [] packet (rules_met packet.origin (first_chain ports)) ≡ either (is_let_in ports packet) Accept (Reject IcmpxAdminProhibited)
 first_verdict packet ports is =
-    ap (chain_verdict packet) (rules_met-by_link packet.origin (first_chain ports) is.by_link)
+    ap (chain_verdict [] packet) (rules_met-by_link packet.origin (first_chain ports) is.by_link)
     ∙ chain_verdict-first_rules packet ports
 
 -- evaluation of the ruleset gives the outcome

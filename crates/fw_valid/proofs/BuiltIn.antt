@@ -12,9 +12,8 @@ use Rattle.fw_service.specs.Zones.{built_in_zones, home_services, rules_of}
 use Rattle.fw_valid.proofs.Tests.{absent_from_test, all_in_from_test, apart_from_test, are_apart, each_from_test, in_from_test, is_among, none_listed}
 use Rattle.fw_valid.specs.Each.{Each, IsWithoutRepeats}
 use Rattle.fw_valid.specs.Names.{AreNamed, AreNames, any, host, service_names, zone_names}
-use Rattle.fw_valid.specs.Riches.{IsRich}
-use Rattle.fw_valid.specs.Rules.{AreOnce, IsPlainForward, IsService, NamesKnown, SetsKnown, all_rules}
-use Rattle.fw_valid.specs.Valid.{AreKnown, AreSets, HasNoRepeats, IsValid}
+use Rattle.fw_valid.specs.Rules.{AreOnce, IsService, NamesKnown, SetsKnown, all_rules}
+use Rattle.fw_valid.specs.Valid.{AreKnown, AreSets, AreWritten, HasNoRepeats, IsValid}
 use Rattle.fw_zone.specs.Bindings.{interfaces_of, sources_of, with_interfaces, with_sources}
 
 names_from_tests : (names : List (List ℕ)) → list_all is_name names ≡ true → are_apart names ≡ true → AreNames names
@@ -22,7 +21,7 @@ names_from_tests names formed apart = record { well_formed = each_from_test is_n
 
 -- settings that let some services in, and nothing else
 known_rules : (config : Config) (services : List (List ℕ)) (masquerade : Bool) → list_all (is_among (service_names config)) services ≡ true → NamesKnown config (rules_of services masquerade)
-known_rules config services masquerade is = record { services = all_in_from_test (service_names config) services is; icmp_types = tt; rich_services = λ rule name never named. absurd never }
+known_rules config services masquerade is = record { services = all_in_from_test (service_names config) services is; icmp_types = tt; rich_services = λ rule name never named. absurd never; rich_icmp_types = λ rule name never named. absurd never }
 
 no_sets : (config : Config) (services : List (List ℕ)) (masquerade : Bool) → SetsKnown config (rules_of services masquerade)
 no_sets config services masquerade rule name never named = absurd never
@@ -139,7 +138,7 @@ built_in_is_valid = record {
     tt))))))))))));
     protocols = (tt, (tt, (tt, (tt, (tt, (tt, (tt, (tt, (tt, (tt, (tt, (tt, tt))))))))))));
     source_ports = (tt, (tt, (tt, (tt, (tt, (tt, (tt, (tt, (tt, (tt, (tt, (tt, tt))))))))))));
+    items = tt;
   };
-  rich_rules = each_zone (λ (rules : Rules). Each IsRich rules.rich) (λ services masquerade known apart. tt);
-  forward_ports = each_zone (λ (rules : Rules). Each IsPlainForward rules.forwards) (λ services masquerade known apart. tt);
+  written = each_zone AreWritten (λ services masquerade known apart. record { rich_rules = tt; forward_ports = tt });
 }

@@ -14,10 +14,16 @@ use Rattle.fw_valid.specs.Names.{any, host, zone_names}
 use Rattle.fw_valid.specs.Riches.{IsPriority}
 use Rattle.fw_zone.specs.Lists.{IsIn}
 
+-- a zone that there is, under a name that means nothing else here
+pub record IsNamedZone (config : Config) (name : List ℕ) : Type 0 where
+  pub known : IsIn name (zone_names config)
+  pub not_host : name ≢ host
+  pub not_any : name ≢ any
+
 -- A side of a policy names zones that there are, or is the host alone, or every zone alone. It may be empty.
 abbrev pub IsSide : Config → List (List ℕ) → Type 0
 IsSide config names =
-    (names ≡ host ∷ []) ⊎ ((names ≡ any ∷ []) ⊎ Each (λ name. IsIn name (zone_names config)) names)
+    (names ≡ host ∷ []) ⊎ ((names ≡ any ∷ []) ⊎ Each (IsNamedZone config) names)
 
 -- packets masquerade, by the plain setting or by a rich rule
 abbrev pub Masquerades : Rules → Type 0

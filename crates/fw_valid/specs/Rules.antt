@@ -27,6 +27,7 @@ pub record NamesKnown (config : Config) (rules : Rules) : Type 0 where
   pub services : Each (λ name. IsIn name (service_names config)) rules.services
   pub icmp_types : Each IsIcmpType rules.icmp_blocks
   pub rich_services : (rule : Rich) (name : List ℕ) → IsIn rule rules.rich → rule.element ≡ Some (element.Service name) → IsIn name (service_names config)
+  pub rich_icmp_types : (rule : Rich) (name : List ℕ) → IsIn rule rules.rich → ((rule.element ≡ Some (element.IcmpBlock name)) ⊎ (rule.element ≡ Some (element.IcmpType name))) → IsIcmpType name
 
 -- What a service includes is there, and each of its destinations is of its family.
 pub record IsService (config : Config) (service : Service) : Type 0 where

@@ -4,6 +4,7 @@ use Rattle.std.specs.Prelude.{◌≡◌, ℕ, List}
 use Rattle.fw_model.specs.declared.binding.Binding.{Binding}
 use Rattle.fw_model.specs.declared.binding.Binding.TheVariants as binding
 use Rattle.fw_model.specs.declared.config.Config.{Config}
+use Rattle.fw_model.specs.declared.ipset.IpSet.{IpSet}
 use Rattle.fw_model.specs.declared.policy.Policy.{Policy}
 use Rattle.fw_model.specs.declared.rules.Rules.{Rules}
 use Rattle.fw_model.specs.declared.service.Service.{Service}
@@ -37,7 +38,7 @@ pub record AreKnown (config : Config) : Type 0 where
   pub in_rules : Each (NamesKnown config) (all_rules config)
   pub in_services : Each (IsService config) config.services
 
--- the lists of a zone, a policy and a service that no other rule is about
+-- every list, but for those of names, which another rule is about
 pub record HasNoRepeats (config : Config) : Type 0 where
   pub rules : Each AreOnce (all_rules config)
   pub interfaces : Each (λ (zone : Zone). IsWithoutRepeats zone.interfaces) config.zones
@@ -48,6 +49,12 @@ pub record HasNoRepeats (config : Config) : Type 0 where
   pub ports : Each (λ (service : Service). IsWithoutRepeats service.ports) config.services
   pub protocols : Each (λ (service : Service). IsWithoutRepeats service.protocols) config.services
   pub source_ports : Each (λ (service : Service). IsWithoutRepeats service.source_ports) config.services
+  pub items : Each (λ (set : IpSet). IsWithoutRepeats set.items) config.ipsets
+
+-- rich rules and forward ports as they can be written
+pub record AreWritten (rules : Rules) : Type 0 where
+  pub rich_rules : Each IsRich rules.rich
+  pub forward_ports : Each IsPlainForward rules.forwards
 
 pub record IsValid (config : Config) : Type 0 where
   -- names are well formed, and unique in their kind; no zone is called HOST or ANY
@@ -66,7 +73,5 @@ pub record IsValid (config : Config) : Type 0 where
   pub policies : Each (IsPolicy config) config.policies
   -- no list has an element twice
   pub no_repeats : HasNoRepeats config
-  -- rich rules have parts that go together
-  pub rich_rules : Each (λ (rules : Rules). Each IsRich rules.rich) (all_rules config)
-  -- plain forward ports have a target, and no address of IPv6
-  pub forward_ports : Each (λ (rules : Rules). Each IsPlainForward rules.forwards) (all_rules config)
+  -- rich rules have parts that go together; plain forward ports have a target, and no address of IPv6
+  pub written : Each AreWritten (all_rules config)

@@ -7,8 +7,9 @@ use Rattle.fw_addr.specs.declared.reject.RejectType.TheVariants.{TcpReset}
 use Rattle.fw_model.specs.declared.outcome.Verdict.{Verdict}
 use Rattle.fw_model.specs.declared.outcome.Verdict.TheVariants as verdict
 use Rattle.fw_model.specs.declared.packet.Packet.{Packet}
-use Rattle.nf_eval.specs.Tests.{is_plain_test, match_holds}
+use Rattle.nf_eval.specs.Tests.{match_holds}
 use Rattle.nf_rules.specs.declared.rule.Rule.{Rule}
+use Rattle.nf_rules.specs.declared.set.NfSet.{NfSet}
 use Rattle.nf_rules.specs.declared.statement.Stmt.{Stmt}
 use Rattle.nf_rules.specs.declared.statement.Stmt.TheVariants as stmt
 
@@ -18,28 +19,30 @@ can_reject TcpReset packet = packet.proto == 6
 can_reject kind packet = true
 
 -- What a statement decides. None: evaluation goes on behind it (VERDICT STATEMENTS). The rulesets that are evaluated
--- have no statements but accept and reject.
+-- have no statements but accept, drop and reject.
 abbrev pub decision : Packet → Stmt → Option Verdict
 decision packet stmt.Accept = Some verdict.Accept
+decision packet stmt.Drop = Some verdict.Drop
 decision packet (stmt.Reject kind) = if can_reject kind packet then Some (verdict.Reject kind) else None
 decision packet other = None
 
--- one of these two statements
+-- one of these three statements
 abbrev pub is_plain_statement : Stmt → Bool
 is_plain_statement stmt.Accept = true
+is_plain_statement stmt.Drop = true
 is_plain_statement (stmt.Reject kind) = true
 is_plain_statement other = false
 
--- a rule of such tests and statements
+-- a rule of such statements
 abbrev pub is_plain_rule : Rule → Bool
-is_plain_rule rule = list_all (λ tested. is_plain_test tested.test) rule.matches && list_all is_plain_statement rule.stmts
+is_plain_rule rule = list_all is_plain_statement rule.stmts
 
 -- What the first statement that decides anything decides.
 abbrev pub first_decision : Packet → List Stmt → Option Verdict
 first_decision packet [] = None
 first_decision packet (statement ∷ statements) = option_or (decision packet statement) (first_decision packet statements)
 
--- A rule does its statements where all of its matches hold.
-abbrev pub rule_decision : Packet → Rule → Option Verdict
-rule_decision packet rule =
-    if list_all (match_holds packet) rule.matches then first_decision packet rule.stmts else None
+-- A rule does its statements where all of its matches hold, with these sets.
+abbrev pub rule_decision : List NfSet → Packet → Rule → Option Verdict
+rule_decision sets packet rule =
+    if list_all (match_holds sets packet) rule.matches then first_decision packet rule.stmts else None

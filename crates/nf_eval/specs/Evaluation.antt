@@ -15,9 +15,9 @@ use Rattle.nf_rules.specs.declared.chain.ChainKind.TheVariants.{Filter}
 use Rattle.nf_rules.specs.declared.chain.Hook.TheVariants.{Input}
 use Rattle.nf_rules.specs.declared.ruleset.Ruleset.{Ruleset}
 use Rattle.nf_rules.specs.declared.rule.Rule.{Rule}
+use Rattle.nf_rules.specs.declared.set.NfSet.{NfSet}
 
--- A ruleset of one base chain, of kind filter at the hook input, whose rules are plain: they test the interface or the
--- destination port, and accept or reject.
+-- A ruleset of one base chain, of kind filter at the hook input, whose rules are plain: they accept, drop or reject.
 pub record IsOneInputChain (rules : Ruleset) : Type 0 where
   pub chain : Chain
   pub base : Base
@@ -38,35 +38,35 @@ abbrev pub outcome_of : Verdict → List LogLine → Outcome
 outcome_of verdict logs = record { verdict = verdict; mark = 0; dnat = None; masquerade = false; logs = logs }
 
 -- From a place among the rules of a base chain, a packet with these log lines so far ends with this outcome.
-pub data Ends (chain : List Rule) : ℕ → Packet → List LogLine → Outcome → Type 0 where
+pub data Ends (sets : List NfSet) (chain : List Rule) : ℕ → Packet → List LogLine → Outcome → Type 0 where
   -- a rule that decides ends it
   decides : {place : ℕ} {packet : Packet} {logs : List LogLine} {rule : Rule} {verdict : Verdict}
       → slice_get chain place ≡ Some rule
-      → rule_decision packet rule ≡ Some verdict
-      → Ends chain place packet logs (outcome_of verdict logs)
+      → rule_decision sets packet rule ≡ Some verdict
+      → Ends sets chain place packet logs (outcome_of verdict logs)
   -- a rule that decides nothing goes on with the next
   goes_on : {place : ℕ} {packet : Packet} {logs : List LogLine} {outcome : Outcome} {rule : Rule}
       → slice_get chain place ≡ Some rule
-      → rule_decision packet rule ≡ None
-      → Ends chain (place + 1) packet logs outcome
-      → Ends chain place packet logs outcome
+      → rule_decision sets packet rule ≡ None
+      → Ends sets chain (place + 1) packet logs outcome
+      → Ends sets chain place packet logs outcome
   -- behind the last rule the chain's policy accepts
   accepts : {place : ℕ} {packet : Packet} {logs : List LogLine}
       → slice_get chain place ≡ None
-      → Ends chain place packet logs (outcome_of Accept logs)
+      → Ends sets chain place packet logs (outcome_of Accept logs)
 
--- What a ruleset of one base chain makes of a packet, from the chain's first rule on, with no log line so far.
+-- What a ruleset of one base chain makes of a packet with its sets, from the chain's first rule on, with no log line so far.
 pub record Eval (rules : Ruleset) (packet : Packet) (outcome : Outcome) : Type 0 where
   pub chain : Chain
   pub alone : rules.chains ≡ chain ∷ []
-  pub ends : Ends (rules_met packet.origin chain) 0 packet [] outcome
+  pub ends : Ends rules.sets (rules_met packet.origin chain) 0 packet [] outcome
 
 -- How many of these rules a packet looks at: those up to the first that decides, with it.
-abbrev pub rules_looked_at : Packet → List Rule → ℕ
-rules_looked_at packet [] = 0
-rules_looked_at packet (rule ∷ rules) =
-    1 + (if is_some (rule_decision packet rule) then 0 else rules_looked_at packet rules)
+abbrev pub rules_looked_at : List NfSet → Packet → List Rule → ℕ
+rules_looked_at sets packet [] = 0
+rules_looked_at sets packet (rule ∷ rules) =
+    1 + (if is_some (rule_decision sets packet rule) then 0 else rules_looked_at sets packet rules)
 
 -- How many rules of a ruleset of one base chain a packet looks at.
 abbrev pub Visits : Ruleset → Packet → ℕ
-Visits rules packet = sum_by (λ chain. rules_looked_at packet (rules_met packet.origin chain)) rules.chains
+Visits rules packet = sum_by (λ chain. rules_looked_at rules.sets packet (rules_met packet.origin chain)) rules.chains

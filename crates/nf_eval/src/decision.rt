@@ -7,7 +7,7 @@ ghost use Rattle.nf_eval.specs.Tests.{match_holds};
 use crate::test::match_holds;
 use fw_addr::RejectType;
 use fw_model::{Packet, Verdict};
-use nf_rules::{Match, Rule, Stmt};
+use nf_rules::{Match, NfSet, Rule, Stmt};
 
 /// The number of TCP in an IP header.
 const TCP: u8 = 6;
@@ -26,6 +26,7 @@ fn decision(packet: &Packet, statement: &Stmt) -> Option<Verdict>
 {
     match statement {
         Stmt::Accept => Some(Verdict::Accept),
+        Stmt::Drop => Some(Verdict::Drop),
         Stmt::Reject(kind) => {
             if can_reject(*kind, packet) {
                 Some(Verdict::Reject(*kind))
@@ -49,17 +50,17 @@ fn first_decision(packet: &Packet, statements: &[Stmt]) -> Option<Verdict>
     None
 }
 
-fn all_hold(packet: &Packet, matches: &[Match]) -> bool
-    ensures { result ≡ list_all (match_holds packet.now) matches.now }
+fn all_hold(sets: &[NfSet], packet: &Packet, matches: &[Match]) -> bool
+    ensures { result ≡ list_all (match_holds sets.now packet.now) matches.now }
 {
-    matches.iter().all(|tested| match_holds(packet, tested))
+    matches.iter().all(|tested| match_holds(sets, packet, tested))
 }
 
 /// What a rule decides: what its first statement that decides anything decides, where all of its matches hold.
-pub fn rule_decision(packet: &Packet, rule: &Rule) -> Option<Verdict>
-    ensures { result ≡ rule_decision packet.now rule.now }
+pub fn rule_decision(sets: &[NfSet], packet: &Packet, rule: &Rule) -> Option<Verdict>
+    ensures { result ≡ rule_decision sets.now packet.now rule.now }
 {
-    if all_hold(packet, rule.matches.as_slice()) {
+    if all_hold(sets, packet, rule.matches.as_slice()) {
         first_decision(packet, rule.stmts.as_slice())
     } else {
         None

@@ -7,16 +7,15 @@ use crate::decision::rule_decision;
 use fw_base::Memory;
 use fw_model::{Origin, Outcome, Packet, Verdict};
 use fw_steps::Steps;
-use nf_rules::{Chain, Rule, Ruleset};
+use nf_rules::{Chain, NfSet, Rule, Ruleset};
 use std::alloc::Global;
 use std::marker::Brand;
 use std::sync::ledger::{Blank, Ledger};
 
 /// What the ruleset makes of the packet. Each rule that is looked at is a step.
 ///
-/// The ruleset is one base chain, of kind filter at the hook input, whose rules test the interface that a packet came
-/// by or its destination port, and accept or reject. A packet that came by an interface meets its
-/// rules in order. The first that decides gives the verdict; where none does, the chain accepts.
+/// The ruleset is one base chain, of kind filter at the hook input, whose rules accept, drop or reject. A packet that came
+/// by an interface meets its rules in order. The first that decides gives the verdict; where none does, the chain accepts.
 ///
 /// Refuses for want of memory alone, and the counter is then as before.
 pub fn eval<L: Ledger>(
@@ -31,7 +30,7 @@ pub fn eval<L: Ledger>(
     ensures err { OnErr result (steps.new ≡ steps.old) }
 {
     let chain = &rules.chains.as_slice()[0];
-    let verdict = chain_verdict(rules_met(&packet.origin, chain), packet, steps);
+    let verdict = chain_verdict(rules.sets.as_slice(), rules_met(&packet.origin, chain), packet, steps);
     Ok(Outcome::plain(alloc, verdict))
 }
 
@@ -70,12 +69,17 @@ fn rules_met<'a>(origin: &Origin, chain: &'a Chain) -> &'a [Rule]
     }
 }
 
-fn chain_verdict<L: Ledger>(rules: &[Rule], packet: &Packet, steps: &mut Steps<L>) -> Verdict
-    ensures verdict { Ends rules.now 0 packet.now [] (outcome_of result []) }
-    ensures visits { steps.new ≡ steps.old + rules_looked_at packet.now rules.now }
+fn chain_verdict<L: Ledger>(
+    sets: &[NfSet],
+    rules: &[Rule],
+    packet: &Packet,
+    steps: &mut Steps<L>,
+) -> Verdict
+    ensures verdict { Ends sets.now rules.now 0 packet.now [] (outcome_of result []) }
+    ensures visits { steps.new ≡ steps.old + rules_looked_at sets.now packet.now rules.now }
 {
     for rule in rules {
-        if let Some(verdict) = look(rule, packet, steps) {
+        if let Some(verdict) = look(sets, rule, packet, steps) {
             return verdict;
         }
     }
@@ -83,10 +87,15 @@ fn chain_verdict<L: Ledger>(rules: &[Rule], packet: &Packet, steps: &mut Steps<L
 }
 
 /// Looks at a rule: a step, and what the rule decides.
-fn look<L: Ledger>(rule: &Rule, packet: &Packet, steps: &mut Steps<L>) -> Option<Verdict>
-    ensures decision { result ≡ rule_decision packet.now rule.now }
+fn look<L: Ledger>(
+    sets: &[NfSet],
+    rule: &Rule,
+    packet: &Packet,
+    steps: &mut Steps<L>,
+) -> Option<Verdict>
+    ensures decision { result ≡ rule_decision sets.now packet.now rule.now }
     ensures step { steps.new ≡ steps.old + 1 }
 {
     steps.tick();
-    rule_decision(packet, rule)
+    rule_decision(sets, packet, rule)
 }

@@ -4,7 +4,9 @@
 mod decision;
 mod evaluation;
 mod laws;
+mod sets;
 mod test;
 
 pub use evaluation::{eval, eval_uncounted};
 pub use laws::{first_rule_decides, outcome_is_unique};
+pub use test::match_holds;

@@ -1,10 +1,13 @@
 //! When the tests of rules hold of a packet.
 ghost use Rattle.std.specs.Prelude.{◌≡◌};
-ghost use Rattle.nf_eval.specs.Tests.{came_in_by, match_holds, test_holds};
+ghost use Rattle.std.specs.List.{list_any};
+ghost use Rattle.fw_addr.specs.Subnets.{family};
+ghost use Rattle.nf_eval.specs.Tests.{came_in_by, icmp_number, is_from, is_from_set, is_same_family, is_same_limit, is_same_state, is_same_type, match_holds, test_holds};
 
-use fw_addr::Iface;
+use crate::sets::{holds_address, holds_mac, holds_port};
+use fw_addr::{Addr, CtState, Family, Iface, Limit, Mac, PktType};
 use fw_model::{Origin, Packet};
-use nf_rules::{Match, Test};
+use nf_rules::{Match, NfSet, Test};
 
 /// Whether the entry stands for the interface by which a packet came.
 fn came_in_by(entry: &Iface, origin: &Origin) -> bool
@@ -16,21 +19,98 @@ fn came_in_by(entry: &Iface, origin: &Origin) -> bool
     }
 }
 
-fn test_holds(packet: &Packet, test: &Test) -> bool
-    ensures { result ≡ test_holds packet.now test.now }
+/// Whether an address is of a family.
+fn is_of(address: Addr, wanted: Family) -> bool
+    ensures { result ≡ is_same_family (family address) wanted }
+{
+    address.family() == wanted
+}
+
+fn is_same_state(one: CtState, other: CtState) -> bool
+    ensures { result ≡ is_same_state one other }
+{
+    one == other
+}
+
+fn is_same_type(one: PktType, other: PktType) -> bool
+    ensures { result ≡ is_same_type one other }
+{
+    one == other
+}
+
+/// Whether the sender has a hardware address.
+fn is_from(address: Mac, mac: Option<Mac>) -> bool
+    ensures { result ≡ is_from address mac }
+{
+    match mac {
+        Some(mac) => mac == address,
+        None => false,
+    }
+}
+
+fn is_from_set(sets: &[NfSet], name: &str, mac: Option<Mac>) -> bool
+    ensures { result ≡ is_from_set sets.now name.now mac }
+{
+    match mac {
+        Some(mac) => holds_mac(sets, name, mac),
+        None => false,
+    }
+}
+
+/// The number of a family's ICMP.
+fn icmp_number(family: Family) -> u8
+    ensures { result ≡ icmp_number family }
+{
+    match family {
+        Family::V4 => 1,
+        Family::V6 => 58,
+    }
+}
+
+fn is_same_limit(one: &Limit, other: &Limit) -> bool
+    ensures { result ≡ is_same_limit one.now other.now }
+{
+    one == other
+}
+
+fn is_within(limit: &Limit, passed: &[Limit]) -> bool
+    ensures { result ≡ list_any (is_same_limit limit.now) passed.now }
+{
+    passed.iter().any(|one| is_same_limit(limit, one))
+}
+
+fn test_holds(sets: &[NfSet], packet: &Packet, test: &Test) -> bool
+    ensures { result ≡ test_holds sets.now packet.now test.now }
 {
     match test {
+        Test::Family(family) => is_of(packet.src, *family),
+        Test::Proto(protocol) => packet.proto == *protocol,
         Test::In(entry) => came_in_by(entry, &packet.origin),
-        Test::Dport(proto, range) => {
-            packet.proto == proto.proto() && range.contains(packet.dport)
+        Test::Pkt(kind) => is_same_type(packet.pkt, *kind),
+        Test::Out(_) => false,
+        Test::Src(net) => net.contains(&packet.src),
+        Test::Dst(net) => net.contains(&packet.dst),
+        Test::SrcSet(name) => holds_address(sets, name.as_str(), &packet.src),
+        Test::DstSet(name) => holds_address(sets, name.as_str(), &packet.dst),
+        Test::SrcMac(address) => is_from(*address, packet.mac),
+        Test::SrcMacSet(name) => is_from_set(sets, name.as_str(), packet.mac),
+        Test::Sport(proto, range) => packet.proto == proto.proto() && range.contains(packet.sport),
+        Test::Dport(proto, range) => packet.proto == proto.proto() && range.contains(packet.dport),
+        Test::DportSet(proto, name) => {
+            packet.proto == proto.proto() && holds_port(sets, name.as_str(), packet.dport)
         }
-        _ => false,
+        Test::Icmp(family, number) => {
+            packet.proto.0 == icmp_number(*family) && packet.icmp_type == *number
+        }
+        Test::State(state) => is_same_state(packet.state, *state),
+        Test::Dnat => packet.dnat,
+        Test::Limit(limit) => is_within(limit, packet.limits.as_slice()),
     }
 }
 
 /// Whether a test holds, or with `not` whether it doesn't.
-pub fn match_holds(packet: &Packet, tested: &Match) -> bool
-    ensures { result ≡ match_holds packet.now tested.now }
+pub fn match_holds(sets: &[NfSet], packet: &Packet, tested: &Match) -> bool
+    ensures { result ≡ match_holds sets.now packet.now tested.now }
 {
-    test_holds(packet, &tested.test) != tested.not
+    test_holds(sets, packet, &tested.test) != tested.not
 }

@@ -11,17 +11,17 @@ pub returns-in-Some-clause-verdict : goal.returns-in-Some-clause-verdict
 returns-in-Some-clause-verdict g c =
     let within : c.loop-rule.rule-index < length c.args.rules.now = omega arith in
     let here = slice_get_read c.args.rules.now _ c.loop-rule.rule-index c.rule-item.result refl within c.rule-item.is in
-    let decided : rule_decision c.args.packet.now c.rule-item.result ≡ Some c.in-Some.verdict = cc in
+    let decided : rule_decision c.args.sets.now c.args.packet.now c.rule-item.result ≡ Some c.in-Some.verdict = cc in
     c.loop-rule.invariant.0 _ (decides here decided)
 
 pub loop-rule-preserved : goal.loop-rule-preserved
 loop-rule-preserved g c =
     let within : c.loop-rule.rule-index < length c.args.rules.now = omega arith in
     let here = slice_get_read c.args.rules.now _ c.loop-rule.rule-index c.rule-item.result refl within c.rule-item.is in
-    let undecided : rule_decision c.args.packet.now c.rule-item.result ≡ None = cc in
+    let undecided : rule_decision c.args.sets.now c.args.packet.now c.rule-item.result ≡ None = cc in
     let counted
-    : c.loop-rule.steps + rules_looked_at c.args.packet.now (drop c.loop-rule.rule-index c.args.rules.now)
-    ≡ c.look.new.steps + rules_looked_at c.args.packet.now (drop (c.loop-rule.rule-index + 1) c.args.rules.now)
+    : c.loop-rule.steps + rules_looked_at c.args.sets.now c.args.packet.now (drop c.loop-rule.rule-index c.args.rules.now)
+    ≡ c.look.new.steps + rules_looked_at c.args.sets.now c.args.packet.now (drop (c.loop-rule.rule-index + 1) c.args.rules.now)
     = grind (arith, common_steps)
     in
     (λ outcome after. c.loop-rule.invariant.0 outcome (goes_on here undecided after), cc)

@@ -7,5 +7,5 @@ use Rattle.nf_eval.proofs.evaluation.chain_verdict.Given as goal
 
 abbrev pub invariant-loop-rule : goal.invariant-loop-rule
 invariant-loop-rule g l =
-    ((outcome : Outcome) → Ends l.rules l.rule-index l.packet [] outcome → Ends l.rules 0 l.packet [] outcome)
-    × (l.fn.steps + rules_looked_at l.packet l.rules ≡ l.steps + rules_looked_at l.packet (drop l.rule-index l.rules))
+    ((outcome : Outcome) → Ends l.sets l.rules l.rule-index l.packet [] outcome → Ends l.sets l.rules 0 l.packet [] outcome)
+    × (l.fn.steps + rules_looked_at l.sets l.packet l.rules ≡ l.steps + rules_looked_at l.sets l.packet (drop l.rule-index l.rules))
