@@ -1,0 +1,18 @@
+-- The call on the zone that was found.
+use Rattle.std.proofs.Common.{◌≡◌, Some, Result, Ok, ap, sym, ◌∙◌}
+use Rattle.std.proofs.lemmas.Option.{same_Some}
+use Rattle.fw_model.specs.declared.zone.Zone.{Zone}
+use Rattle.fw_zone_calls.proofs.InZone.{zone_answers}
+use Rattle.fw_zone_calls.specs.Inversion.{inversion_call}
+use Rattle.fw_zone_calls.specs.Calls.{look_up}
+use Rattle.fw_zone_calls.specs.Zones.{Found}
+use Rattle.fw_zone_calls.specs.declared.refusal.Refusal.{Refusal}
+use Rattle.fw_zone_calls.proofs.answer.inversion_in.Goals as goal
+
+pub returns : goal.returns
+returns c =
+    let found : Found = record { place = c.in_ok-found.found.place; zone = c.get_mut.result.now } in
+    let same : c.in_ok-found.found.zone.now ≡ c.get_mut.result.now = same_Some c.in_ok-found.found.zone.now c.get_mut.result.now (sym c.in_ok-found.ensures.at ∙ c.get_mut.ensures.value) in
+    let looked_up : look_up c.args.config.now c.args.zone.now ≡ Ok found =
+    c.in_ok-found.ensures.found ∙ ap (λ (zone : Zone). let one : Found = record { place = c.in_ok-found.found.place; zone = zone } in Ok one) same in
+    zone_answers c.args.config.now c.args.zone.now (λ (zone : Zone). inversion_call zone c.args.verb) found c.inversion_call.new.zone c.inversion_call.result looked_up c.get_mut.ensures.value c.inversion_call.ensures
