@@ -3,7 +3,7 @@
 -- A call is answered by the settings in force. Before its reply a client is told, in order, each signal that came since
 -- its session's last call, up to and with those of the call itself. A client's first call opens its session, which knows
 -- of no signal that came before; `end` closes it.
-use Rattle.std.specs.Prelude.{ℕ, codes, decimal, drop, length, List, [], ◌∷◌, ◌++◌, Option, None, Some, slice_set}
+use Rattle.std.specs.Prelude.{ℕ, false, codes, decimal, drop, length, List, [], ◌∷◌, ◌++◌, Option, None, Some, slice_set}
 use Rattle.std.specs.List.{flat_map}
 use Rattle.std.specs.Option.{option_map}
 use Rattle.fw_line.specs.Line.{line_of}

@@ -11,12 +11,12 @@ use super::sessions::Sessions;
 use fw_base::{Memory, Seq};
 use fw_call::Call;
 use fw_line::{Line, push_outcome, read_line};
-use fw_words::LineError;
 use fw_model::{Packet, Runtime};
 use fw_run::Machine;
 use fw_service::built_in_config;
 use fw_told::{Signal, push_reply, push_signal};
 use fw_verdict::verdict;
+use fw_words::LineError;
 use fw_zone_calls::answer_call;
 use std::alloc::Global;
 use std::marker::Model;
@@ -69,17 +69,24 @@ impl Firewall {
     }
 
     /// Answers a call of a client, whose session it opens if there is none.
-    fn call(&mut self, alloc: Global, client: u16, call: &Call, out: &mut String) -> Result<(), Memory>
+    fn call(
+        &mut self,
+        alloc: Global,
+        client: u16,
+        call: &Call,
+        out: &mut String,
+    ) -> Result<(), Memory>
         requires { client < 10000 }
         ensures text { OnOk result (string_bytes out.new ≡ string_bytes out.old ++ (call_step self.old client call.now).text) }
         ensures state { OnOk result (self.new ≡ (call_step self.old client call.now).state) }
     {
         let known = self.known(client);
         let answer = answer_call(alloc, &mut self.runtime.config, call)?;
-        self.signals.append(answer.signals)?;
+        add_all(&mut self.signals, answer.signals)?;
         push_signals(out, client, &self.signals, known)?;
         push_reply(alloc, out, client, &answer.reply)?;
-        self.sessions.set(client, Some(self.signals.len()));
+        self.sessions
+            .set(client, Some(self.signals.as_slice().len()));
         Ok(())
     }
 
@@ -90,7 +97,7 @@ impl Firewall {
     {
         match self.sessions.told(client) {
             Some(told) => told,
-            None => self.signals.len(),
+            None => self.signals.as_slice().len(),
         }
     }
 
@@ -117,14 +124,29 @@ impl Firewall {
     }
 }
 
+/// Appends signals to those so far.
+fn add_all(signals: &mut Seq<Signal>, new: Seq<Signal>) -> Result<(), Memory>
+    ensures { OnOk result (signals.new ≡ signals.old ++ new) }
+{
+    for signal in new.into_vec() {
+        signals.push(signal)?;
+    }
+    Ok(())
+}
+
 /// Appends the lines of the signals behind the first so many.
-fn push_signals(out: &mut String, client: u16, signals: &Seq<Signal>, known: usize) -> Result<(), Memory>
+fn push_signals(
+    out: &mut String,
+    client: u16,
+    signals: &Seq<Signal>,
+    known: usize,
+) -> Result<(), Memory>
     ensures { OnOk result (string_bytes out.new ≡ string_bytes out.old ++ flat_map (signal_line client) (drop known signals.now)) }
 {
-    let Some(signals) = signals.as_slice().get(known..) else {
+    let Some(untold) = signals.as_slice().get(known..) else {
         return Ok(());
     };
-    for signal in signals {
+    for signal in untold {
         push_signal(out, client, signal)?;
     }
     Ok(())

@@ -20,9 +20,9 @@ impl Model for Sessions {
 
     ghost Value = { List (Option ℕ) };
 
-    ghost view = { λ sessions. sessions.told };
+    ghost view = { λ sessions. sessions.told.items };
 
-    ghost invariant = { λ sessions. length sessions.told ≡ 10000 };
+    ghost invariant = { λ sessions. length sessions.told.items ≡ 10000 };
 }
 
 impl Sessions {
@@ -32,9 +32,11 @@ impl Sessions {
     pub fn none(alloc: Global) -> Result<Sessions, Memory>
         ensures { IfOk result (λ sessions. sessions ≡ no_session) }
     {
-        Ok(Sessions {
-            told: vec![in alloc; None; CLIENTS]?,
-        })
+        let mut told = Vec::with_capacity(alloc, CLIENTS)?;
+        for _ in 0..CLIENTS {
+            told.push(None)?;
+        }
+        Ok(Sessions { told })
     }
 
     /// How many signals the session of a client was told, where it has one.
