@@ -4,7 +4,7 @@ use Rattle.fw_firewall.specs.Script.{first_state, step}
 use Rattle.fw_input.specs.Lines.{Judgement}
 use Rattle.fw_run.specs.Endings.{EndsBehind, Runs, WritesAll}
 use Rattle.fw_run.specs.declared.ended.Ended.TheVariants as ended
-use Rattle.fw_script.specs.Ran.{Ran}
+use Rattle.fw_script.specs.Ran.{HasRun}
 use Rattle.fw_script.specs.declared.status.Status.TheVariants as status
 
 as-before : (held : Option (List ℕ)) → WritesAll [] held held
@@ -15,7 +15,7 @@ no-lines : (input : Option Judgement) → IfSome input (EndsBehind step ended.Me
 no-lines None = tt
 no-lines (Some judgement) = (judgement.lines, refl)
 
-pub nothing_ran : (input : Option Judgement) (held : Option (List ℕ)) → Ran status.Memory input held held
+pub nothing_ran : (input : Option Judgement) (held : Option (List ℕ)) → HasRun status.Memory input held held
 nothing_ran input held = record {
   ended = ended.Memory;
   last = first_state;

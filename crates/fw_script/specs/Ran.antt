@@ -20,7 +20,7 @@ abbrev pub IsUntouched : (before after : Option (List ℕ)) → (faults now : �
 IsUntouched before after faults now = (after ≡ before) × (now ≡ faults)
 
 -- Some first lines of the input ran, from the built-in settings on, and ended so; what they printed was written.
-pub record Ran (told : Status) (input : Option Judgement) (before after : Option (List ℕ)) : Type 0 where
+pub record HasRun (told : Status) (input : Option Judgement) (before after : Option (List ℕ)) : Type 0 where
   pub ended : Ended
   pub last : State
   pub status : told ≡ status_of ended

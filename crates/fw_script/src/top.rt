@@ -5,7 +5,7 @@ ghost use Rattle.std.specs.String.{string_bytes};
 ghost use Rattle.fw_base.specs.Causes.{Rose};
 ghost use Rattle.fw_firewall.specs.Script.{first_state, step};
 ghost use Rattle.fw_input.specs.Lines.{judged};
-ghost use Rattle.fw_script.specs.Ran.{IsUntouched, Ran, input_limit, line_limit};
+ghost use Rattle.fw_script.specs.Ran.{HasRun, IsUntouched, input_limit, line_limit};
 ghost use Rattle.fw_script.specs.Words.{is_run};
 
 use super::Status;
@@ -39,7 +39,7 @@ pub fn top_run<I: Source, O: Sink>(
         × IsUntouched (O.written output.old) (O.written output.new) (O.faults output.old) (O.faults output.new) }
 
     // The lines that ran, and what was written of their text.
-    ensures ran { is_run (map string_bytes words.now) ≡ true → Ran result.status (option_map (judged line_limit input_limit) (I.left input.old)) (O.written output.old) (O.written output.new) }
+    ensures ran { is_run (map string_bytes words.now) ≡ true → HasRun result.status (option_map (judged line_limit input_limit) (I.left input.old)) (O.written output.old) (O.written output.new) }
     ensures done { result.status ≡ Status.Done → IfSome (I.left input.new) (λ left. left ≡ []) }
     ensures read_fault { result.status ≡ Status.ReadFault → Rose (I.faults input.old) (I.faults input.new) }
     ensures write_fault { result.status ≡ Status.WriteFault → Rose (O.faults output.old) (O.faults output.new) }
@@ -56,7 +56,7 @@ pub fn top_run<I: Source, O: Sink>(
 /// Runs the script of the input on the built-in settings.
 #[tactic(auto, using(crate::proofs::Nothing::nothing_ran))]
 fn run<I: Source, O: Sink>(alloc: Global, input: &mut I, output: &mut O) -> Status
-    ensures ran { Ran result (option_map (judged line_limit input_limit) (I.left input.old)) (O.written output.old) (O.written output.new) }
+    ensures ran { HasRun result (option_map (judged line_limit input_limit) (I.left input.old)) (O.written output.old) (O.written output.new) }
     ensures done { result ≡ Status.Done → IfSome (I.left input.new) (λ left. left ≡ []) }
     ensures read_fault { result ≡ Status.ReadFault → Rose (I.faults input.old) (I.faults input.new) }
     ensures write_fault { result ≡ Status.WriteFault → Rose (O.faults output.old) (O.faults output.new) }
