@@ -12,8 +12,9 @@ use Rattle.fw_zone.specs.Lists.{IsIn}
 any_in : {A : Type 0} (test : A → Bool) (xs : List A) → list_any test xs ≡ true → (item : A) × IsIn item xs × (test item ≡ true)
 any_in test [] is = absurd (false≢true is)
 any_in test (x ∷ xs) is = elim (or_cases (test x) (list_any test xs) is) [
-    inl here ↦ (x, inl refl, here)
-  | inr there ↦ let rest = any_in test xs there in (rest.0, inr rest.1, rest.2) ]
+  | inl here ↦ (x, inl refl, here)
+  | inr there ↦ let rest = any_in test xs there in (rest.0, inr rest.1, rest.2)
+]
 
 any_from : {A : Type 0} (test : A → Bool) (xs : List A) (item : A) → IsIn item xs → test item ≡ true → list_any test xs ≡ true
 any_from test [] item found is = absurd found
@@ -30,13 +31,14 @@ pub chain_from_test : (most : ℕ) (services : List Service) (from to : List ℕ
 chain_from_test zero services from to is = subst (λ name. Reaches services from name) ((bytes_eq-Decides from to).0 is) itself
 chain_from_test (suc most) services from to is =
     elim (or_cases (bytes_eq from to) _ is) [
-      inl same ↦ subst (λ name. Reaches services from name) ((bytes_eq-Decides from to).0 same) itself
-    | inr more ↦
-        let found = any_in (λ service. bytes_eq service.name from && list_any (λ included. reaches_within most services included to) service.includes) services more in
-        let parts = and_parts (bytes_eq found.0.name from) _ found.2 in
-        let next = any_in (λ included. reaches_within most services included to) found.0.includes parts.1 in
-        through (record { service = found.0; listed = found.1; named = (bytes_eq-Decides found.0.name from).0 parts.0; included = next.1 })
-          (chain_from_test most services next.0 to next.2) ]
+      | inl same ↦ subst (λ name. Reaches services from name) ((bytes_eq-Decides from to).0 same) itself
+      | inr more ↦
+          let found = any_in (λ service. bytes_eq service.name from && list_any (λ included. reaches_within most services included to) service.includes) services more in
+          let parts = and_parts (bytes_eq found.0.name from) _ found.2 in
+          let next = any_in (λ included. reaches_within most services included to) found.0.includes parts.1 in
+          through (record { service = found.0; listed = found.1; named = (bytes_eq-Decides found.0.name from).0 parts.0; included = next.1 })
+          (chain_from_test most services next.0 to next.2)
+    ]
 
 -- a chain from none of some names on
 data Avoids (services : List Service) (avoided : List (List ℕ)) : List ℕ → List ℕ → Type 0 where
@@ -53,10 +55,12 @@ last_time : (services : List Service) (avoided : List (List ℕ)) (name from to 
 last_time services avoided name from to ends = inl ends
 last_time services avoided name from to (goes {between = between} first clear rest) =
     elim (last_time services avoided name between to rest) [
-      inr found ↦ inr found
-    | inl short ↦ elim (cases_Bool (bytes_eq from name)) [
-        inl same ↦ inr (between, subst (λ start. Includes services start between) ((bytes_eq-Decides from name).0 same) first, short)
-      | inr differs ↦ inl (goes first (or_from (bytes_eq from name) _ differs clear) short) ] ]
+      | inr found ↦ inr found
+      | inl short ↦ elim (cases_Bool (bytes_eq from name)) [
+        | inl same ↦ inr (between, subst (λ start. Includes services start between) ((bytes_eq-Decides from name).0 same) first, short)
+        | inr differs ↦ inl (goes first (or_from (bytes_eq from name) _ differs clear) short)
+      ]
+    ]
 
 -- how many services are called by none of some names
 abbrev free : List (List ℕ) → List Service → ℕ
@@ -71,10 +75,12 @@ free_at_most name avoided [] = omega arith
 free_at_most name avoided (service ∷ services) =
     let rest = free_at_most name avoided services in
     elim (cases_Bool (list_any (bytes_eq service.name) avoided)) [
-      inl is ↦ grind (arith, rest, is, or_right (bytes_eq service.name name) (list_any (bytes_eq service.name) avoided) is)
-    | inr clear ↦ elim (cases_Bool (bytes_eq service.name name)) [
-        inl same ↦ grind (arith, rest, clear, same, or_left (bytes_eq service.name name) (list_any (bytes_eq service.name) avoided) same)
-      | inr differs ↦ grind (arith, rest, clear, or_from (bytes_eq service.name name) (list_any (bytes_eq service.name) avoided) differs clear) ] ]
+      | inl is ↦ grind (arith, rest, is, or_right (bytes_eq service.name name) (list_any (bytes_eq service.name) avoided) is)
+      | inr clear ↦ elim (cases_Bool (bytes_eq service.name name)) [
+        | inl same ↦ grind (arith, rest, clear, same, or_left (bytes_eq service.name name) (list_any (bytes_eq service.name) avoided) same)
+        | inr differs ↦ grind (arith, rest, clear, or_from (bytes_eq service.name name) (list_any (bytes_eq service.name) avoided) differs clear)
+      ]
+    ]
 
 -- a service of the name counts no more
 free_falls : (name : List ℕ) (avoided : List (List ℕ)) (services : List Service) (service : Service) → IsIn service services → service.name ≡ name → list_any (bytes_eq name) avoided ≡ false → free (name ∷ avoided) services < free avoided services
@@ -88,10 +94,12 @@ free_falls name avoided (first ∷ services) service (inl here) named clear =
 free_falls name avoided (first ∷ services) service (inr found) named clear =
     let rest = free_falls name avoided services service found named clear in
     elim (cases_Bool (list_any (bytes_eq first.name) avoided)) [
-      inl is ↦ grind (arith, rest, is, or_right (bytes_eq first.name name) (list_any (bytes_eq first.name) avoided) is)
-    | inr was ↦ elim (cases_Bool (bytes_eq first.name name)) [
-        inl same ↦ grind (arith, rest, was, same, or_left (bytes_eq first.name name) (list_any (bytes_eq first.name) avoided) same)
-      | inr differs ↦ grind (arith, rest, was, or_from (bytes_eq first.name name) (list_any (bytes_eq first.name) avoided) differs was) ] ]
+      | inl is ↦ grind (arith, rest, is, or_right (bytes_eq first.name name) (list_any (bytes_eq first.name) avoided) is)
+      | inr was ↦ elim (cases_Bool (bytes_eq first.name name)) [
+        | inl same ↦ grind (arith, rest, was, same, or_left (bytes_eq first.name name) (list_any (bytes_eq first.name) avoided) same)
+        | inr differs ↦ grind (arith, rest, was, or_from (bytes_eq first.name name) (list_any (bytes_eq first.name) avoided) differs was)
+      ]
+    ]
 
 -- one include and then a chain that the test finds
 found_through : (most : ℕ) (services : List Service) (from next to : List ℕ) → Includes services from next → reaches_within most services next to ≡ true → reaches_within (suc most) services from to ≡ true
@@ -111,14 +119,16 @@ found_within (suc most) services avoided from to room (goes {between = between} 
     let falls = free_falls from avoided services first.service first.listed first.named clear in
     let less : free (from ∷ avoided) services ≤ most = omega arith in
     elim (last_time services avoided from between to rest) [
-      inl short ↦ found_through most services from between to first (found_within most services (from ∷ avoided) between to less short)
-    | inr later ↦ found_through most services from later.0 to later.1 (found_within most services (from ∷ avoided) later.0 to less later.2) ]
+      | inl short ↦ found_through most services from between to first (found_within most services (from ∷ avoided) between to less short)
+      | inr later ↦ found_through most services from later.0 to later.1 (found_within most services (from ∷ avoided) later.0 to less later.2)
+    ]
 
 free_at_first : (services : List Service) → free [] services ≡ length services
 free_at_first [] = refl
 free_at_first (service ∷ services) = ap suc (free_at_first services)
 
 pub short_chains : (services : List Service) (from to : List ℕ) → IsTrue (reaches services from to) ↔ Reaches services from to
-short_chains services from to =
-    (chain_from_test (length services) services from to,
-    λ chain. found_within (length services) services [] from to (let all = free_at_first services in omega arith) (avoids_none services from to chain))
+short_chains services from to = (
+  chain_from_test (length services) services from to,
+  λ chain. found_within (length services) services [] from to (let all = free_at_first services in omega arith) (avoids_none services from to chain),
+)

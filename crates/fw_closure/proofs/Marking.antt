@@ -23,8 +23,9 @@ pub one_passed : (services : List Service) (names : List (List ℕ)) (upto : ℕ
 one_passed services names upto old new was now marked here = record {
   keeps = marked.keeps;
   marks = λ place bound named. elim (cases_eq place upto) [
-      inl same ↦ subst (λ (spot : ℕ). IsMarked new spot) (sym same) (here (subst (λ (spot : ℕ). IsNamed services names spot) same named))
-    | inr differs ↦ marked.marks place (omega arith) named ];
+    | inl same ↦ subst (λ (spot : ℕ). IsMarked new spot) (sym same) (here (subst (λ (spot : ℕ). IsNamed services names spot) same named))
+    | inr differs ↦ marked.marks place (omega arith) named
+  ];
   only = marked.only;
   waits = marked.waits;
   stays = marked.stays;
@@ -40,14 +41,17 @@ one_marked services names upto old new was now marked named free =
     record {
       keeps = λ place is. set_keeps new upto place (marked.keeps place is);
       marks = λ place below called. elim (cases_eq place upto) [
-          inl same ↦ subst (λ (spot : ℕ). IsMarked (slice_set new upto true) spot) (sym same) is_marked
-        | inr differs ↦ set_keeps new upto place (marked.marks place (omega arith) called) ];
+        | inl same ↦ subst (λ (spot : ℕ). IsMarked (slice_set new upto true) spot) (sym same) is_marked
+        | inr differs ↦ set_keeps new upto place (marked.marks place (omega arith) called)
+      ];
       only = λ place is. elim (set_only new upto place is) [
-          inl before ↦ elim (marked.only place before) [ inl first ↦ inl first | inr found ↦ inr (found.0, in_front now (upto ∷ []) place found.1) ]
-        | inr same ↦ inr (subst (λ (spot : ℕ). IsNamed services names spot) (sym same) named, subst (λ (spot : ℕ). IsIn spot (now ++ upto ∷ [])) (sym same) (at_end now upto)) ];
+        | inl before ↦ elim (marked.only place before) [ inl first ↦ inl first | inr found ↦ inr (found.0, in_front now (upto ∷ []) place found.1) ]
+        | inr same ↦ inr (subst (λ (spot : ℕ). IsNamed services names spot) (sym same) named, subst (λ (spot : ℕ). IsIn spot (now ++ upto ∷ [])) (sym same) (at_end now upto))
+      ];
       waits = λ place found. elim (in_pushed now upto place found) [
-          inl before ↦ elim (marked.waits place before) [ inl first ↦ inl first | inr is ↦ inr (set_keeps new upto place is) ]
-        | inr same ↦ inr (subst (λ (spot : ℕ). IsMarked (slice_set new upto true) spot) same is_marked) ];
+        | inl before ↦ elim (marked.waits place before) [ inl first ↦ inl first | inr is ↦ inr (set_keeps new upto place is) ]
+        | inr same ↦ inr (subst (λ (spot : ℕ). IsMarked (slice_set new upto true) spot) same is_marked)
+      ];
       stays = λ place found. in_front now (upto ∷ []) place (marked.stays place found);
       work = let counted = set_counts new upto free in let longer = length-append now (upto ∷ []) in let before = marked.work in omega arith;
     }

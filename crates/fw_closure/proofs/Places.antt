@@ -32,17 +32,18 @@ ascending_pushed places last rises below k bound =
     let longer = length-append places (last ∷ []) in
     let front : k < length places = omega arith in
     elim (cases_lt (k + 1) (length places)) [
-      inl inside ↦
-        let this = read_front places last k front in
-        let next = read_front places last (k + 1) inside in
-        let order = rises k inside in
-        omega arith
-    | inr at_end ↦
-        let this = read_front places last k front in
-        let same : k + 1 ≡ length places = omega arith in
-        let next = ap (λ spot. get_or (places ++ last ∷ []) spot 0) same ∙ read_last places last in
-        let order = below (get_or places k 0) (in_read places k front) in
-        omega arith ]
+      | inl inside ↦
+          let this = read_front places last k front in
+          let next = read_front places last (k + 1) inside in
+          let order = rises k inside in
+          omega arith
+      | inr at_end ↦
+          let this = read_front places last k front in
+          let same : k + 1 ≡ length places = omega arith in
+          let next = ap (λ spot. get_or (places ++ last ∷ []) spot 0) same ∙ read_last places last in
+          let order = below (get_or places k 0) (in_read places k front) in
+          omega arith
+    ]
 
 pub below_none : (marks : List Bool) → AreBelow marks 0 []
 below_none marks = record {
@@ -52,30 +53,36 @@ below_none marks = record {
 
 pub below_marked : (marks : List Bool) (upto : ℕ) (places : List ℕ) → AreBelow marks upto places → IsMarked marks upto → AreBelow marks (upto + 1) (places ++ upto ∷ [])
 below_marked marks upto places are here = record {
-  exactly = λ place.
-    (λ found. elim (in_pushed places upto place found) [
-        inl before ↦ let both = (are.exactly place).0 before in let bound = both.0 in (omega arith, both.1)
-      | inr same ↦ (let equal : upto ≡ place = same in omega arith, subst (λ (spot : ℕ). IsMarked marks spot) same here) ],
+  exactly = λ place. (
+    λ found. elim (in_pushed places upto place found) [
+      | inl before ↦ let both = (are.exactly place).0 before in let bound = both.0 in (omega arith, both.1)
+      | inr same ↦ (let equal : upto ≡ place = same in omega arith, subst (λ (spot : ℕ). IsMarked marks spot) same here)
+    ],
     λ both. elim (cases_eq place upto) [
-        inl same ↦ subst (λ (spot : ℕ). IsIn spot (places ++ upto ∷ [])) (sym same) (at_end places upto)
-      | inr differs ↦ in_front places (upto ∷ []) place ((are.exactly place).1 (let bound = both.0 in omega arith, both.1)) ]);
+      | inl same ↦ subst (λ (spot : ℕ). IsIn spot (places ++ upto ∷ [])) (sym same) (at_end places upto)
+      | inr differs ↦ in_front places (upto ∷ []) place ((are.exactly place).1 (let bound = both.0 in omega arith, both.1))
+    ],
+  );
   ascending = ascending_pushed places upto are.ascending (λ place found. ((are.exactly place).0 found).0);
 }
 
 pub below_passed : (marks : List Bool) (upto : ℕ) (places : List ℕ) → AreBelow marks upto places → ¬ (IsMarked marks upto) → AreBelow marks (upto + 1) places
 below_passed marks upto places are free = record {
-  exactly = λ place.
-    (λ found. let both = (are.exactly place).0 found in let bound = both.0 in (omega arith, both.1),
+  exactly = λ place. (
+    λ found. let both = (are.exactly place).0 found in let bound = both.0 in (omega arith, both.1),
     λ both. (are.exactly place).1 (elim (cases_eq place upto) [
-        inl same ↦ absurd (free (subst (λ (spot : ℕ). IsMarked marks spot) same both.1))
-      | inr differs ↦ (let bound = both.0 in omega arith, both.1) ]));
+      | inl same ↦ absurd (free (subst (λ (spot : ℕ). IsMarked marks spot) same both.1))
+      | inr differs ↦ (let bound = both.0 in omega arith, both.1)
+    ]),
+  );
   ascending = are.ascending;
 }
 
 pub below_all : (marks : List Bool) (upto : ℕ) (places : List ℕ) → AreBelow marks upto places → length marks ≤ upto → ArePlaces marks places
 below_all marks upto places are past = record {
-  exactly = λ place.
-    (λ found. ((are.exactly place).0 found).1,
-    λ is. (are.exactly place).1 (let bound = slice_get_within marks place true is in omega arith, is));
+  exactly = λ place. (
+    λ found. ((are.exactly place).0 found).1,
+    λ is. (are.exactly place).1 (let bound = slice_get_within marks place true is in omega arith, is),
+  );
   ascending = are.ascending;
 }

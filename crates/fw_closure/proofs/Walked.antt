@@ -41,12 +41,13 @@ pub walked_first : (services : List Service) (from : List ℕ) (old new : List B
 walked_first services from old new now marked same none = record {
   length = same;
   sound = λ place is. elim (marked.only place is) [
-      inl was ↦ absurd (none place was)
+    | inl was ↦ absurd (none place was)
     | inr named ↦ record {
-        service = named.0.service;
-        at = named.0.at;
-        reached = elim named.0.named [ inl here ↦ subst (λ name. Reaches services from name) here itself | inr never ↦ absurd never ];
-      } ];
+      service = named.0.service;
+      at = named.0.at;
+      reached = elim named.0.named [ inl here ↦ subst (λ name. Reaches services from name) here itself | inr never ↦ absurd never ];
+    }
+  ];
   waits = λ place is. elim (marked.waits place is) [ inl never ↦ absurd never | inr is ↦ is ];
   starts = λ place named. marked.marks place (named_within services (from ∷ []) place named) named;
   followed = λ place is. elim (marked.only place is) [ inl was ↦ absurd (none place was) | inr named ↦ inl named.1 ];
@@ -64,25 +65,31 @@ walked_on services from old new waiting was now place service walked popped at m
       service = named.service;
       at = named.at;
       reached = one_more services from service.name named.service.name
-        (subst (λ (found : Service). Reaches services from found.name) (some_same place services is_here.service service is_here.at at) is_here.reached)
-        (record { service = service; listed = in_at services place service at; named = refl; included = named.named });
+          (subst (λ (found : Service). Reaches services from found.name) (some_same place services is_here.service service is_here.at at) is_here.reached)
+          (record { service = service; listed = in_at services place service at; named = refl; included = named.named });
     } in
     record {
       length = same;
       sound = λ other is. elim (marked.only other is) [ inl old ↦ walked.sound other old | inr named ↦ next other named.0 ];
       waits = λ other is. elim (marked.waits other is) [
-          inl was ↦ marked.keeps other (walked.waits other (subst (λ list. IsIn other list) (sym popped) (in_front _ (place ∷ []) other was)))
-        | inr is ↦ is ];
+        | inl was ↦ marked.keeps other (walked.waits other (subst (λ list. IsIn other list) (sym popped) (in_front _ (place ∷ []) other was)))
+        | inr is ↦ is
+      ];
       starts = λ other named. marked.keeps other (walked.starts other named);
       followed = λ other is. elim (marked.only other is) [
-          inl before ↦ elim (walked.followed other before) [
-              inl waited ↦ elim (in_pushed was place other (subst (λ list. IsIn other list) popped waited)) [
-                  inl still ↦ inl (marked.stays other still)
-                | inr here ↦ inr (record { follows = λ found found_at third named.
-                    marked.marks third (named_within services service.includes third (subst (λ (one : Service). IsNamed services one.includes third) (some_same place services found service (subst (λ spot. slice_get services spot ≡ Some found) (sym here) found_at) at) named))
-                    (subst (λ (one : Service). IsNamed services one.includes third) (some_same place services found service (subst (λ spot. slice_get services spot ≡ Some found) (sym here) found_at) at) named) }) ]
-            | inr done ↦ inr (record { follows = λ found found_at third named. marked.keeps third (done.follows found found_at third named) }) ]
-        | inr named ↦ inl named.1 ];
+        | inl before ↦ elim (walked.followed other before) [
+          | inl waited ↦ elim (in_pushed was place other (subst (λ list. IsIn other list) popped waited)) [
+            | inl still ↦ inl (marked.stays other still)
+            | inr here ↦ inr (record {
+              follows = λ found found_at third named.
+                  marked.marks third (named_within services service.includes third (subst (λ (one : Service). IsNamed services one.includes third) (some_same place services found service (subst (λ spot. slice_get services spot ≡ Some found) (sym here) found_at) at) named))
+                  (subst (λ (one : Service). IsNamed services one.includes third) (some_same place services found service (subst (λ spot. slice_get services spot ≡ Some found) (sym here) found_at) at) named);
+            })
+          ]
+          | inr done ↦ inr (record { follows = λ found found_at third named. marked.keeps third (done.follows found found_at third named) })
+        ]
+        | inr named ↦ inl named.1
+      ];
     }
 
 -- at the end all are marked to whose names a chain leads from a name all of whose services are
@@ -94,16 +101,18 @@ all_along services marks closed from to (through {between = between} first rest)
     let is_marked = starts spot.0 (record { service = first.service; at = spot.1; named = inl (sym first.named) }) in
     all_along services marks closed between to rest
     (λ other called. (closed spot.0 is_marked).follows first.service spot.1 other
-      (record { service = called.service; at = called.at; named = elim called.named [ inl here ↦ subst (λ name. IsIn name first.service.includes) here first.included | inr never ↦ absurd never ] }))
+    (record { service = called.service; at = called.at; named = elim called.named [ inl here ↦ subst (λ name. IsIn name first.service.includes) here first.included | inr never ↦ absurd never ] }))
     place named
 
 pub walked_all : (services : List Service) (from : List ℕ) (marks : List Bool) (places : List ℕ) → Walked services from marks [] → ArePlaces marks places → AreReached services from places
 walked_all services from marks places walked are = record {
-  exactly = λ place. (λ found. walked.sound place ((are.exactly place).0 found),
+  exactly = λ place. (
+    λ found. walked.sound place ((are.exactly place).0 found),
     λ reached. (are.exactly place).1 (all_along services marks
-      (λ other is. elim (walked.followed other is) [ inl never ↦ absurd never | inr done ↦ done ])
-      from reached.service.name reached.reached walked.starts place
-      (record { service = reached.service; at = reached.at; named = inl refl })));
+        (λ other is. elim (walked.followed other is) [ inl never ↦ absurd never | inr done ↦ done ])
+        from reached.service.name reached.reached walked.starts place
+        (record { service = reached.service; at = reached.at; named = inl refl })),
+  );
   ascending = are.ascending;
 }
 
@@ -114,7 +123,7 @@ pub walked_start : (services : List Service) (from : List ℕ) (names : List (Li
 walked_start services from names old new was now marked named empty free same =
     walked_first services from old new now
     (subst (λ (waiting : List ℕ). HasMarked services (from ∷ []) (length services) old new waiting now) empty
-      (subst (λ (names : List (List ℕ)). HasMarked services names (length services) old new was now) named marked))
+    (subst (λ (names : List (List ℕ)). HasMarked services names (length services) old new was now) named marked))
     same
     (λ place is. none_marked (length services) place (subst (λ (marks : List Bool). IsMarked marks place) free is))
 

@@ -24,7 +24,7 @@ reaches_within zero services from to = bytes_eq from to
 reaches_within (suc most) services from to =
     bytes_eq from to
     || list_any (λ service. bytes_eq service.name from
-        && list_any (λ included. reaches_within most services included to) service.includes) services
+    && list_any (λ included. reaches_within most services included to) service.includes) services
 
 -- A chain needs no more includes than there are services.
 abbrev pub reaches : List Service → List ℕ → List ℕ → Bool

@@ -15,10 +15,8 @@ pub fn mark(
 ) -> Result<(), Memory>
     requires { length reached.old.items ≡ length services.now }
     ensures length { length reached.new.items ≡ length services.now }
-    ensures marked {
-        OnOk result (HasMarked services.now names.now (length services.now)
-        reached.old.items reached.new.items waiting.old.items waiting.new.items)
-    }
+    ensures marked { OnOk result (HasMarked services.now names.now (length services.now)
+        reached.old.items reached.new.items waiting.old.items waiting.new.items) }
 {
     for place in 0..services.len() {
         if !reached[place] && contains(names, &services[place].name) {

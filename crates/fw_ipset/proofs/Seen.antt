@@ -83,13 +83,16 @@ pub seen_more : {S : Type 0} (seen new : HashSet Key S) (items : List Item) (ite
     → HasSeen new (items ++ item ∷ [])
 seen_more seen new items item has updates = record {
   sound = λ other is. elim (cases_Bool (same (key item) (key other))) [
-      inl same_key ↦ subst (λ (one : Item). IsIn one (items ++ item ∷ [])) (item_from_key item other ((same_decides (key item) (key other)).0 same_key)) (at_end items item)
-    | inr differs ↦ in_front items (item ∷ []) other (has.sound other (sym (ap (λ test. cond test true (bag.contains same seen (key other))) differs) ∙ sym (updates (key other)) ∙ is)) ];
+    | inl same_key ↦ subst (λ (one : Item). IsIn one (items ++ item ∷ [])) (item_from_key item other ((same_decides (key item) (key other)).0 same_key)) (at_end items item)
+    | inr differs ↦ in_front items (item ∷ []) other (has.sound other (sym (ap (λ test. cond test true (bag.contains same seen (key other))) differs) ∙ sym (updates (key other)) ∙ is))
+  ];
   whole = λ other found. updates (key other) ∙ elim (in_pushed items item other found) as (λ _. cond (same (key item) (key other)) true (bag.contains same seen (key other)) ≡ true) [
-      inl before ↦ elim (cases_Bool (same (key item) (key other))) [
-          inl same_key ↦ ap (λ test. cond test true (bag.contains same seen (key other))) same_key
-        | inr differs ↦ ap (λ test. cond test true (bag.contains same seen (key other))) differs ∙ has.whole other before ]
-    | inr here ↦ ap (λ test. cond test true (bag.contains same seen (key other))) ((same_decides (key item) (key other)).1 (ap key here)) ];
+    | inl before ↦ elim (cases_Bool (same (key item) (key other))) [
+      | inl same_key ↦ ap (λ test. cond test true (bag.contains same seen (key other))) same_key
+      | inr differs ↦ ap (λ test. cond test true (bag.contains same seen (key other))) differs ∙ has.whole other before
+    ]
+    | inr here ↦ ap (λ test. cond test true (bag.contains same seen (key other))) ((same_decides (key item) (key other)).1 (ap key here))
+  ];
 }
 
 -- an item whose key is new wasn't there, and one whose key isn't was

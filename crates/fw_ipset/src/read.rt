@@ -13,10 +13,8 @@ use fw_model::{IpSet, Item, SetKind};
 ///
 /// Refuses every text for a set with a timeout, and else one that is no such entry.
 pub fn read_item(set: &IpSet, text: &str) -> Result<Item, SetError>
-    ensures {
-        result ≡ (if set.now.timeout then Err SetError.IpsetWithTimeout
-        else ok_or (entry set.now text.now) SetError.InvalidEntry)
-    }
+    ensures { result ≡ (if set.now.timeout then Err SetError.IpsetWithTimeout
+        else ok_or (entry set.now text.now) SetError.InvalidEntry) }
 {
     if set.timeout {
         return Err(SetError::IpsetWithTimeout);

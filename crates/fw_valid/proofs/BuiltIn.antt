@@ -39,17 +39,34 @@ once services masquerade is = record {
 
 -- what holds of such settings holds of all zones
 each_zone : (P : Rules → Type 0) → ((services : List (List ℕ)) (masquerade : Bool) → list_all (is_among (service_names built_in_config)) services ≡ true → are_apart services ≡ true → P (rules_of services masquerade)) → Each P (all_rules built_in_config)
-each_zone P holds =
-    (holds [] false refl refl,
-    (holds (codes "ssh" ∷ []) false refl refl,
-    (holds [] false refl refl,
-    (holds (codes "ssh" ∷ []) true refl refl,
-    (holds home_services false refl refl,
-    (holds home_services false refl refl,
-    (holds (codes "ssh" ∷ codes "dhcpv6-client" ∷ []) false refl refl,
-    (holds [] false refl refl,
-    (holds (codes "ssh" ∷ codes "dhcpv6-client" ∷ []) false refl refl,
-    tt)))))))))
+each_zone P holds = (
+  holds [] false refl refl,
+  (
+    holds (codes "ssh" ∷ []) false refl refl,
+    (
+      holds [] false refl refl,
+      (
+        holds (codes "ssh" ∷ []) true refl refl,
+        (
+          holds home_services false refl refl,
+          (
+            holds home_services false refl refl,
+            (
+              holds (codes "ssh" ∷ codes "dhcpv6-client" ∷ []) false refl refl,
+              (
+                holds [] false refl refl,
+                (
+                  holds (codes "ssh" ∷ codes "dhcpv6-client" ∷ []) false refl refl,
+                  tt,
+                ),
+              ),
+            ),
+          ),
+        ),
+      ),
+    ),
+  ),
+)
 
 apart_ports : (one other : Port) → ¬ (one ≡ other) → IsWithoutRepeats (one ∷ other ∷ [])
 apart_ports one other differ = (λ found. elim found [ inl same ↦ differ (sym same) | inr never ↦ absurd never ], ((λ never. absurd never), tt))
@@ -80,29 +97,78 @@ built_in_is_valid = record {
   default_zone = in_from_test (zone_names built_in_config) (codes "public") refl;
   interfaces = λ entry one other first second. absurd (none_listed interfaces_of with_interfaces built_in_zones (refl, (refl, (refl, (refl, (refl, (refl, (refl, (refl, (refl, tt))))))))) one entry first);
   sources = λ entry one other first second. absurd (none_listed sources_of with_sources built_in_zones (refl, (refl, (refl, (refl, (refl, (refl, (refl, (refl, (refl, tt))))))))) one entry first);
-  ipsets = record { in_sources = ((λ name never. absurd never),
-    ((λ name never. absurd never),
-    ((λ name never. absurd never),
-    ((λ name never. absurd never),
-    ((λ name never. absurd never),
-    ((λ name never. absurd never),
-    ((λ name never. absurd never),
-    ((λ name never. absurd never),
-    ((λ name never. absurd never),
-    tt))))))))); in_rich_rules = each_zone (SetsKnown built_in_config) (λ services masquerade known apart. no_sets built_in_config services masquerade); sets = tt };
-  known = record { in_rules = each_zone (NamesKnown built_in_config) (λ services masquerade known apart. known_rules built_in_config services masquerade known); in_services = (no_includes (codes "dhcp") (udp 67 ∷ []),
-    (record { includes = tt; in_ipv4 = tt; in_ipv6 = refl },
-    (no_includes (codes "dns") (tcp 53 ∷ udp 53 ∷ []),
-    (no_includes (codes "http") (tcp 80 ∷ []),
-    (no_includes (codes "https") (tcp 443 ∷ []),
-    (no_includes (codes "ipp-client") (udp 631 ∷ []),
-    (record { includes = tt; in_ipv4 = refl; in_ipv6 = refl },
-    (no_includes (codes "ntp") (udp 123 ∷ []),
-    (no_includes (codes "samba-client") (udp 137 ∷ udp 138 ∷ []),
-    (no_includes (codes "smtp") (tcp 25 ∷ []),
-    (no_includes (codes "ssh") (tcp 22 ∷ []),
-    (record { includes = all_in_from_test (service_names built_in_config) (codes "http" ∷ codes "https" ∷ []) refl; in_ipv4 = tt; in_ipv6 = tt },
-    tt)))))))))))) };
+  ipsets = record {
+    in_sources = (
+      (λ name never. absurd never),
+      (
+        (λ name never. absurd never),
+        (
+          (λ name never. absurd never),
+          (
+            (λ name never. absurd never),
+            (
+              (λ name never. absurd never),
+              (
+                (λ name never. absurd never),
+                (
+                  (λ name never. absurd never),
+                  (
+                    (λ name never. absurd never),
+                    (
+                      (λ name never. absurd never),
+                      tt,
+                    ),
+                  ),
+                ),
+              ),
+            ),
+          ),
+        ),
+      ),
+    );
+    in_rich_rules = each_zone (SetsKnown built_in_config) (λ services masquerade known apart. no_sets built_in_config services masquerade);
+    sets = tt;
+  };
+  known = record {
+    in_rules = each_zone (NamesKnown built_in_config) (λ services masquerade known apart. known_rules built_in_config services masquerade known);
+    in_services = (
+      no_includes (codes "dhcp") (udp 67 ∷ []),
+      (
+        record { includes = tt; in_ipv4 = tt; in_ipv6 = refl },
+        (
+          no_includes (codes "dns") (tcp 53 ∷ udp 53 ∷ []),
+          (
+            no_includes (codes "http") (tcp 80 ∷ []),
+            (
+              no_includes (codes "https") (tcp 443 ∷ []),
+              (
+                no_includes (codes "ipp-client") (udp 631 ∷ []),
+                (
+                  record { includes = tt; in_ipv4 = refl; in_ipv6 = refl },
+                  (
+                    no_includes (codes "ntp") (udp 123 ∷ []),
+                    (
+                      no_includes (codes "samba-client") (udp 137 ∷ udp 138 ∷ []),
+                      (
+                        no_includes (codes "smtp") (tcp 25 ∷ []),
+                        (
+                          no_includes (codes "ssh") (tcp 22 ∷ []),
+                          (
+                            record { includes = all_in_from_test (service_names built_in_config) (codes "http" ∷ codes "https" ∷ []) refl; in_ipv4 = tt; in_ipv6 = tt },
+                            tt,
+                          ),
+                        ),
+                      ),
+                    ),
+                  ),
+                ),
+              ),
+            ),
+          ),
+        ),
+      ),
+    );
+  };
   policies = tt;
   no_repeats = record {
     rules = each_zone AreOnce (λ services masquerade known apart. once services masquerade apart);
@@ -110,32 +176,80 @@ built_in_is_valid = record {
     sources = (tt, (tt, (tt, (tt, (tt, (tt, (tt, (tt, (tt, tt)))))))));
     ingress = tt;
     egress = tt;
-    includes = (tt,
-    (tt,
-    (tt,
-    (tt,
-    (tt,
-    (tt,
-    (tt,
-    (tt,
-    (tt,
-    (tt,
-    (tt,
-    (apart_from_test (codes "http" ∷ codes "https" ∷ []) refl,
-    tt))))))))))));
-    ports = (one_port (udp 67),
-    (one_port (udp 546),
-    (apart_ports (tcp 53) (udp 53) dns_differ,
-    (one_port (tcp 80),
-    (one_port (tcp 443),
-    (one_port (udp 631),
-    (one_port (udp 5353),
-    (one_port (udp 123),
-    (apart_ports (udp 137) (udp 138) samba_differ,
-    (one_port (tcp 25),
-    (one_port (tcp 22),
-    (tt,
-    tt))))))))))));
+    includes = (
+      tt,
+      (
+        tt,
+        (
+          tt,
+          (
+            tt,
+            (
+              tt,
+              (
+                tt,
+                (
+                  tt,
+                  (
+                    tt,
+                    (
+                      tt,
+                      (
+                        tt,
+                        (
+                          tt,
+                          (
+                            apart_from_test (codes "http" ∷ codes "https" ∷ []) refl,
+                            tt,
+                          ),
+                        ),
+                      ),
+                    ),
+                  ),
+                ),
+              ),
+            ),
+          ),
+        ),
+      ),
+    );
+    ports = (
+      one_port (udp 67),
+      (
+        one_port (udp 546),
+        (
+          apart_ports (tcp 53) (udp 53) dns_differ,
+          (
+            one_port (tcp 80),
+            (
+              one_port (tcp 443),
+              (
+                one_port (udp 631),
+                (
+                  one_port (udp 5353),
+                  (
+                    one_port (udp 123),
+                    (
+                      apart_ports (udp 137) (udp 138) samba_differ,
+                      (
+                        one_port (tcp 25),
+                        (
+                          one_port (tcp 22),
+                          (
+                            tt,
+                            tt,
+                          ),
+                        ),
+                      ),
+                    ),
+                  ),
+                ),
+              ),
+            ),
+          ),
+        ),
+      ),
+    );
     protocols = (tt, (tt, (tt, (tt, (tt, (tt, (tt, (tt, (tt, (tt, (tt, (tt, tt))))))))))));
     source_ports = (tt, (tt, (tt, (tt, (tt, (tt, (tt, (tt, (tt, (tt, (tt, (tt, tt))))))))))));
     items = tt;

@@ -15,8 +15,9 @@ is_among names name = list_any (λ other. bytes_eq other name) names
 pub in_from_test : (names : List (List ℕ)) (name : List ℕ) → is_among names name ≡ true → IsIn name names
 in_from_test [] name is = absurd (false≢true is)
 in_from_test (first ∷ names) name is = elim (or_cases (bytes_eq first name) (is_among names name) is) [
-    inl here ↦ inl ((bytes_eq-Decides first name).0 here)
-  | inr there ↦ inr (in_from_test names name there) ]
+  | inl here ↦ inl ((bytes_eq-Decides first name).0 here)
+  | inr there ↦ inr (in_from_test names name there)
+]
 
 pub absent_from_test : (names : List (List ℕ)) (name : List ℕ) → is_among names name ≡ false → ¬ (IsIn name names)
 absent_from_test [] name is found = found
@@ -48,7 +49,7 @@ pub none_listed : {A : Type 0} (of : Zone → List A) (with : Zone → List A �
     → (place : ℕ) (entry : A) → ¬ (IsListedAt of with zones place entry)
 none_listed {A} of with zones empty place entry listed = at zones empty place listed.zone listed.at (listed.lists)
   where
-  at : (zones : List Zone) → Each (λ zone. of zone ≡ []) zones → (place : ℕ) (zone : Zone) → slice_get zones place ≡ Some zone → ¬ (IsIn entry (of zone))
-  at [] empty place zone is = cc
-  at (first ∷ zones) empty zero zone is = λ found. let same : first ≡ zone = cc in subst (λ items. IsIn entry items) (ap of (sym same) ∙ empty.0) found
-  at (first ∷ zones) empty (suc place) zone is = at zones empty.1 place zone is
+    at : (zones : List Zone) → Each (λ zone. of zone ≡ []) zones → (place : ℕ) (zone : Zone) → slice_get zones place ≡ Some zone → ¬ (IsIn entry (of zone))
+    at [] empty place zone is = cc
+    at (first ∷ zones) empty zero zone is = λ found. let same : first ≡ zone = cc in subst (λ items. IsIn entry items) (ap of (sym same) ∙ empty.0) found
+    at (first ∷ zones) empty (suc place) zone is = at zones empty.1 place zone is

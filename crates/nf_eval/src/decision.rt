@@ -53,7 +53,9 @@ fn first_decision(packet: &Packet, statements: &[Stmt]) -> Option<Verdict>
 fn all_hold(sets: &[NfSet], packet: &Packet, matches: &[Match]) -> bool
     ensures { result ≡ list_all (match_holds sets.now packet.now) matches.now }
 {
-    matches.iter().all(|tested| match_holds(sets, packet, tested))
+    matches
+        .iter()
+        .all(|tested| match_holds(sets, packet, tested))
 }
 
 /// What a rule decides: what its first statement that decides anything decides, where all of its matches hold.

@@ -30,7 +30,12 @@ pub fn eval<L: Ledger>(
     ensures err { OnErr result (steps.new ≡ steps.old) }
 {
     let chain = &rules.chains.as_slice()[0];
-    let verdict = chain_verdict(rules.sets.as_slice(), rules_met(&packet.origin, chain), packet, steps);
+    let verdict = chain_verdict(
+        rules.sets.as_slice(),
+        rules_met(&packet.origin, chain),
+        packet,
+        steps,
+    );
     Ok(Outcome::plain(alloc, verdict))
 }
 

@@ -12,8 +12,7 @@ use nf_rules::{NfSet, SetBody};
 pub fn holds_address(sets: &[NfSet], name: &str, address: &Addr) -> bool
     ensures { result ≡ holds_address sets.now name.now address.now }
 {
-    sets.iter()
-        .any(|set| set.name.as_str() == name && has_address(address, &set.body))
+    sets.iter().any(|set| set.name.as_str() == name && has_address(address, &set.body))
 }
 
 /// Whether the set of a name holds a hardware address.
@@ -28,8 +27,7 @@ pub fn holds_mac(sets: &[NfSet], name: &str, mac: Mac) -> bool
 pub fn holds_port(sets: &[NfSet], name: &str, port: u16) -> bool
     ensures { result ≡ holds_port sets.now name.now port }
 {
-    sets.iter()
-        .any(|set| set.name.as_str() == name && has_port(port, &set.body))
+    sets.iter().any(|set| set.name.as_str() == name && has_port(port, &set.body))
 }
 
 fn has_address(address: &Addr, body: &SetBody) -> bool

@@ -28,5 +28,5 @@ returns c =
     let walked = subst (λ (waiting : List ℕ). Walked c.args.services.now c.args.name.now c.loop-place.reached.items waiting) (empty c.loop-place.waiting.items none) c.loop-place.invariant in
     IfOk-weaker c.places_of.result _ _
     (λ places are. walked_all c.args.services.now c.args.name.now c.loop-place.reached.items places.items walked
-      (subst (λ (marks : List Bool). ArePlaces marks places.items) c.deref.ensures.value are))
+    (subst (λ (marks : List Bool). ArePlaces marks places.items) c.deref.ensures.value are))
     c.places_of.ensures

@@ -13,14 +13,15 @@ pub loop-place-preserved : goal.loop-place-preserved
 loop-place-preserved c =
     let here = slice_get-get_or c.args.marks.now c.loop-place.place false c.loop-place-test.true in
     elim c.if-marks-place.branch [
-      then-marks-place+in_ok-push w ↦
-        subst (λ (places : List ℕ). AreBelow c.args.marks.now (c.loop-place.place + 1) places)
-        (sym (ap (λ (list : Vec ℕ Global). list.items) w.places-is ∙ w.in_ok-push.ensures.items))
-        (below_marked c.args.marks.now c.loop-place.place c.loop-place.places.items c.loop-place.invariant (here ∙ ap Some w.if-marks-place.true))
-    | else-marks-place w ↦
-        subst (λ (places : List ℕ). AreBelow c.args.marks.now (c.loop-place.place + 1) places)
-        (sym (ap (λ (list : Vec ℕ Global). list.items) w.places-is))
-        (below_passed c.args.marks.now c.loop-place.place c.loop-place.places.items c.loop-place.invariant (λ is. let free = here ∙ ap Some w.if-marks-place.false in cc)) ]
+      | then-marks-place+in_ok-push w ↦
+          subst (λ (places : List ℕ). AreBelow c.args.marks.now (c.loop-place.place + 1) places)
+          (sym (ap (λ (list : Vec ℕ Global). list.items) w.places-is ∙ w.in_ok-push.ensures.items))
+          (below_marked c.args.marks.now c.loop-place.place c.loop-place.places.items c.loop-place.invariant (here ∙ ap Some w.if-marks-place.true))
+      | else-marks-place w ↦
+          subst (λ (places : List ℕ). AreBelow c.args.marks.now (c.loop-place.place + 1) places)
+          (sym (ap (λ (list : Vec ℕ Global). list.items) w.places-is))
+          (below_passed c.args.marks.now c.loop-place.place c.loop-place.places.items c.loop-place.invariant (λ is. let free = here ∙ ap Some w.if-marks-place.false in cc))
+    ]
 
 pub returns : goal.returns
 returns c = below_all c.args.marks.now c.loop-place.place c.loop-place.places.items c.loop-place.invariant c.loop-place-test.false

@@ -6,5 +6,5 @@ use Rattle.fw_ipset.proofs.once.keep_once.Given as goal
 abbrev pub invariant-loop-item : goal.invariant-loop-item
 invariant-loop-item l = record {
   once : IsKeptOnce l.yielded l.kept;
-  seen : HasSeen l.seen l.yielded
+  seen : HasSeen l.seen l.yielded;
 }
