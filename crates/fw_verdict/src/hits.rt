@@ -1,11 +1,12 @@
 //! Which packets a setting is about.
 ghost use Rattle.std.specs.Prelude.{◌≡◌};
 ghost use Rattle.fw_model.specs.Ports.{port_matches};
-ghost use Rattle.fw_verdict.specs.Hits.{hits_icmp, hits_service, is_icmp, is_icmpv4, is_icmpv6, is_ipv4, is_type, source_port_matches};
+ghost use Rattle.fw_verdict.specs.Hits.{hits_icmp, is_icmp, is_icmpv4, is_icmpv6, is_ipv4, is_type};
+ghost use Rattle.fw_verdict.specs.Services.{source_port_matches};
 
 use crate::sources::is_v4;
 use fw_addr::icmp_numbers;
-use fw_model::{Config, Packet, Port};
+use fw_model::{Packet, Port};
 
 /// The numbers of ICMP and ICMPv6 in an IP header.
 const ICMP: u8 = 1;
@@ -65,11 +66,4 @@ pub fn source_port_matches(port: &Port, packet: &Packet) -> bool
     ensures { result ≡ source_port_matches port.now packet.now }
 {
     packet.proto == port.proto.proto() && port.range.contains(packet.sport)
-}
-
-/// Whether a service is about a packet: there are no services yet.
-pub fn hits_service(_config: &Config, _name: &str, _packet: &Packet) -> bool
-    ensures { result ≡ hits_service _config.now _name.now _packet.now }
-{
-    false
 }
