@@ -8,11 +8,11 @@ ghost use Rattle.fw_verdict.specs.Items.{allow_items, deny_items, items};
 ghost use Rattle.fw_verdict.specs.Services.{service_hits, source_port_matches};
 ghost use Rattle.fw_verdict.specs.Walk.{silently, walk};
 
-use crate::hits::{hits_icmp, is_icmp, port_matches, source_port_matches};
+use crate::hits::{any_port, any_protocol, any_source_port, hits_icmp, is_icmp};
 use crate::services::service_hits;
-use fw_addr::{Proto, RejectType};
+use fw_addr::RejectType;
 use fw_base::{Memory, Text};
-use fw_model::{Config, Packet, Port, Service, Verdict, Zone};
+use fw_model::{Config, Packet, Service, Verdict, Zone};
 use std::alloc::Global;
 
 /// What is told of a reject for which no type is said.
@@ -33,24 +33,6 @@ fn any_service(
         }
     }
     Ok(false)
-}
-
-pub fn any_port(ports: &[Port], packet: &Packet) -> bool
-    ensures { result ≡ list_any (λ port. port_matches port packet.now) ports.now }
-{
-    ports.iter().any(|port| port_matches(port, packet))
-}
-
-pub fn any_protocol(protocols: &[Proto], packet: &Packet) -> bool
-    ensures { result ≡ list_any (λ protocol. packet.now.proto == protocol) protocols.now }
-{
-    protocols.iter().any(|protocol| packet.proto == *protocol)
-}
-
-pub fn any_source_port(ports: &[Port], packet: &Packet) -> bool
-    ensures { result ≡ list_any (λ port. source_port_matches port packet.now) ports.now }
-{
-    ports.iter().any(|port| source_port_matches(port, packet))
 }
 
 fn any_icmp(names: &[Text], packet: &Packet) -> bool

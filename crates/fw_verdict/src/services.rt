@@ -3,7 +3,7 @@ ghost use Rattle.std.specs.Prelude.{◌≡◌, IfOk, slice_get};
 ghost use Rattle.fw_verdict.specs.Members.{any_member_hits, hits_among, is_hit, may_hit, own_hits};
 ghost use Rattle.fw_verdict.specs.Services.{allows_destination, destination_for, entries_match, goes_anywhere, holds, member_hits, service_hits};
 
-use crate::items::{any_port, any_protocol, any_source_port};
+use crate::hits::{any_port, any_protocol, any_source_port};
 use crate::sources::is_v4;
 use fw_addr::{Addr, Net};
 use fw_base::Memory;
@@ -30,6 +30,7 @@ pub fn service_hits(
     if own_hits(services, name, packet) {
         return Ok(true);
     }
+    // No chain of includes can lead to a service that hits where none does.
     if !any_member_hits(services, packet) {
         return Ok(false);
     }
@@ -37,6 +38,7 @@ pub fn service_hits(
     Ok(hits_among(services, &places, packet))
 }
 
+/// Whether a service of the name is about the packet by itself, or includes others.
 fn may_hit(services: &[Service], name: &str, packet: &Packet) -> bool
     ensures { result ≡ may_hit services.now name.now packet.now }
 {
@@ -46,18 +48,21 @@ fn may_hit(services: &[Service], name: &str, packet: &Packet) -> bool
     })
 }
 
+/// Whether a service of the name is about the packet by itself.
 fn own_hits(services: &[Service], name: &str, packet: &Packet) -> bool
     ensures { result ≡ own_hits services.now name.now packet.now }
 {
     services.iter().any(|service| service.name.as_str() == name && member_hits(service, packet))
 }
 
+/// Whether any service is about the packet by itself.
 fn any_member_hits(services: &[Service], packet: &Packet) -> bool
     ensures { result ≡ any_member_hits services.now packet.now }
 {
     services.iter().any(|service| member_hits(service, packet))
 }
 
+/// Whether one of the services at some places is about the packet by itself.
 fn hits_among(services: &[Service], places: &[usize], packet: &Packet) -> bool
     ensures { result ≡ hits_among services.now places.now packet.now }
 {
@@ -80,6 +85,7 @@ fn member_hits(service: &Service, packet: &Packet) -> bool
     entries_match(service, packet) && allows_destination(service, packet.dst)
 }
 
+/// Whether one of a service's ports, protocols and source ports matches.
 fn entries_match(service: &Service, packet: &Packet) -> bool
     ensures { result ≡ entries_match service.now packet.now }
 {
