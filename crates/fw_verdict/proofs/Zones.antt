@@ -11,8 +11,9 @@ use Rattle.fw_model.specs.declared.packet.Packet.{Packet}
 use Rattle.fw_model.specs.declared.rules.Rules.{Rules}
 use Rattle.fw_model.specs.declared.setting.Setting.TheVariants as setting
 use Rattle.fw_model.specs.declared.zone.Zone.{Zone}
-use Rattle.fw_verdict.specs.Hits.{hits, hits_icmp, is_icmp, source_port_matches}
+use Rattle.fw_verdict.specs.Hits.{hits, hits_icmp, is_icmp}
 use Rattle.fw_verdict.specs.Items.{allow_items, all_accepted, deny_items, icmp_items, items}
+use Rattle.fw_verdict.specs.Services.{source_port_matches}
 use Rattle.fw_verdict.specs.Walk.{nothing, or_then, silently, walk}
 use Rattle.fw_verdict.specs.Way.{reject}
 use Rattle.fw_verdict.proofs.Walks.{walk_both, walk_either, walk_same}

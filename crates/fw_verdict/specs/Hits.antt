@@ -1,17 +1,15 @@
 -- Which packets a setting of a zone or a policy is about (firewalld.zone(5), firewalld.policy(5)).
 use Rattle.std.specs.Prelude.{ℕ, ◌==◌, List, Bool, false, not, ◌&&◌, ◌||◌, Option, None, Some}
 use Rattle.fw_addr.specs.Icmp.{icmp}
-use Rattle.fw_addr.specs.Ports.{in_range}
-use Rattle.fw_addr.specs.Protocols.{proto_number}
 use Rattle.fw_addr.specs.declared.icmp.IcmpNumbers.{IcmpNumbers}
 use Rattle.fw_model.specs.Packets.{is_v4}
 use Rattle.fw_model.specs.Ports.{port_matches}
 use Rattle.fw_model.specs.declared.config.Config.{Config}
 use Rattle.fw_model.specs.declared.packet.Packet.{Packet}
-use Rattle.fw_model.specs.declared.port.Port.{Port}
 use Rattle.fw_model.specs.declared.rich.Rich.{Rich}
 use Rattle.fw_model.specs.declared.setting.Setting.{Setting}
 use Rattle.fw_model.specs.declared.setting.Setting.TheVariants as setting
+use Rattle.fw_verdict.specs.Services.{service_hits, source_port_matches}
 
 -- a packet of IPv4
 abbrev pub is_ipv4 : Packet → Bool
@@ -41,13 +39,9 @@ hits_numbers (Some numbers) packet = (is_icmpv4 packet && is_type numbers.v4 pac
 abbrev pub hits_icmp : List ℕ → Packet → Bool
 hits_icmp name packet = hits_numbers (icmp name) packet
 
--- the protocol, and a source port in the range (`source-port`)
-abbrev pub source_port_matches : Port → Packet → Bool
-source_port_matches port packet = packet.proto == proto_number port.proto && in_range port.range packet.sport
-
--- Services let no packet in yet: there are none.
+-- the service of this name, or one that it includes, is about the packet (firewalld.service(5))
 abbrev pub hits_service : Config → List ℕ → Packet → Bool
-hits_service config name packet = false
+hits_service config name packet = service_hits config.services name packet
 
 -- Rich rules are about no packet yet: they aren't in force.
 abbrev pub hits_rich : Config → Rich → Packet → Bool

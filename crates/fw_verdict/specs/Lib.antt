@@ -2,6 +2,8 @@ pub mod Bindings
 pub mod Founds
 pub mod Hits
 pub mod Items
+pub mod Members
+pub mod Services
 pub mod Sources
 pub mod Walk
 pub mod Way

@@ -1,11 +1,13 @@
 //! Which packets a setting is about.
-ghost use Rattle.std.specs.Prelude.{◌≡◌};
+ghost use Rattle.std.specs.Prelude.{◌≡◌, ◌==◌};
+ghost use Rattle.std.specs.List.{list_any};
 ghost use Rattle.fw_model.specs.Ports.{port_matches};
-ghost use Rattle.fw_verdict.specs.Hits.{hits_icmp, hits_service, is_icmp, is_icmpv4, is_icmpv6, is_ipv4, is_type, source_port_matches};
+ghost use Rattle.fw_verdict.specs.Hits.{hits_icmp, is_icmp, is_icmpv4, is_icmpv6, is_ipv4, is_type};
+ghost use Rattle.fw_verdict.specs.Services.{source_port_matches};
 
 use crate::sources::is_v4;
-use fw_addr::icmp_numbers;
-use fw_model::{Config, Packet, Port};
+use fw_addr::{Proto, icmp_numbers};
+use fw_model::{Packet, Port};
 
 /// The numbers of ICMP and ICMPv6 in an IP header.
 const ICMP: u8 = 1;
@@ -54,22 +56,36 @@ pub fn hits_icmp(name: &str, packet: &Packet) -> bool
 }
 
 /// Whether a packet has the protocol, and a destination port in the range.
-pub fn port_matches(port: &Port, packet: &Packet) -> bool
+fn port_matches(port: &Port, packet: &Packet) -> bool
     ensures { result ≡ port_matches port.now packet.now }
 {
     packet.proto == port.proto.proto() && port.range.contains(packet.dport)
 }
 
 /// Whether a packet has the protocol, and a source port in the range.
-pub fn source_port_matches(port: &Port, packet: &Packet) -> bool
+fn source_port_matches(port: &Port, packet: &Packet) -> bool
     ensures { result ≡ source_port_matches port.now packet.now }
 {
     packet.proto == port.proto.proto() && port.range.contains(packet.sport)
 }
 
-/// Whether a service is about a packet: there are no services yet.
-pub fn hits_service(_config: &Config, _name: &str, _packet: &Packet) -> bool
-    ensures { result ≡ hits_service _config.now _name.now _packet.now }
+/// Whether one of some ports matches.
+pub fn any_port(ports: &[Port], packet: &Packet) -> bool
+    ensures { result ≡ list_any (λ port. port_matches port packet.now) ports.now }
 {
-    false
+    ports.iter().any(|port| port_matches(port, packet))
+}
+
+/// Whether a packet is of one of some protocols.
+pub fn any_protocol(protocols: &[Proto], packet: &Packet) -> bool
+    ensures { result ≡ list_any (λ protocol. packet.now.proto == protocol) protocols.now }
+{
+    protocols.iter().any(|protocol| packet.proto == *protocol)
+}
+
+/// Whether one of some source ports matches.
+pub fn any_source_port(ports: &[Port], packet: &Packet) -> bool
+    ensures { result ≡ list_any (λ port. source_port_matches port packet.now) ports.now }
+{
+    ports.iter().any(|port| source_port_matches(port, packet))
 }

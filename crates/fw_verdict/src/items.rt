@@ -1,45 +1,38 @@
 //! What a zone does with packets to the host.
-ghost use Rattle.std.specs.Prelude.{◌≡◌, ◌==◌, ◌||◌, ◌&&◌, not, if◌then◌else◌};
+ghost use Rattle.std.specs.Prelude.{◌≡◌, ◌==◌, ◌||◌, ◌&&◌, not, if◌then◌else◌, IfOk};
 ghost use Rattle.std.specs.List.{list_any};
 ghost use Rattle.fw_model.specs.Ports.{port_matches};
 ghost use Rattle.fw_model.specs.declared.config.Config.{Config};
-ghost use Rattle.fw_model.specs.declared.setting.Setting.TheVariants as setting;
-ghost use Rattle.fw_verdict.specs.Hits.{hits, hits_icmp, is_icmp, source_port_matches};
+ghost use Rattle.fw_verdict.specs.Hits.{hits_icmp, is_icmp};
 ghost use Rattle.fw_verdict.specs.Items.{allow_items, deny_items, items};
+ghost use Rattle.fw_verdict.specs.Services.{service_hits, source_port_matches};
 ghost use Rattle.fw_verdict.specs.Walk.{silently, walk};
 
-use crate::hits::{hits_icmp, hits_service, is_icmp, port_matches, source_port_matches};
-use fw_addr::{Proto, RejectType};
-use fw_base::Text;
-use fw_model::{Config, Packet, Port, Verdict, Zone};
+use crate::hits::{any_port, any_protocol, any_source_port, hits_icmp, is_icmp};
+use crate::services::service_hits;
+use fw_addr::RejectType;
+use fw_base::{Memory, Text};
+use fw_model::{Config, Packet, Service, Verdict, Zone};
+use std::alloc::Global;
 
 /// What is told of a reject for which no type is said.
 pub const REJECT: Verdict = Verdict::Reject(RejectType::IcmpxAdminProhibited);
 
-fn any_service(config: &Config, names: &[Text], packet: &Packet) -> bool
-    ensures { result ≡ list_any (λ name. hits config.now (setting.Service name) packet.now) names.now }
+/// Whether one of some services is about a packet.
+fn any_service(
+    alloc: Global,
+    services: &[Service],
+    names: &[Text],
+    packet: &Packet,
+) -> Result<bool, Memory>
+    ensures { IfOk result (λ hit. hit ≡ list_any (λ name. service_hits services.now name packet.now) names.now) }
 {
-    names
-        .iter()
-        .any(|name| hits_service(config, name.as_str(), packet))
-}
-
-fn any_port(ports: &[Port], packet: &Packet) -> bool
-    ensures { result ≡ list_any (λ port. port_matches port packet.now) ports.now }
-{
-    ports.iter().any(|port| port_matches(port, packet))
-}
-
-fn any_protocol(protocols: &[Proto], packet: &Packet) -> bool
-    ensures { result ≡ list_any (λ protocol. packet.now.proto == protocol) protocols.now }
-{
-    protocols.iter().any(|protocol| packet.proto == *protocol)
-}
-
-fn any_source_port(ports: &[Port], packet: &Packet) -> bool
-    ensures { result ≡ list_any (λ port. source_port_matches port packet.now) ports.now }
-{
-    ports.iter().any(|port| source_port_matches(port, packet))
+    for name in names {
+        if service_hits(alloc, services, name.as_str(), packet)? {
+            return Ok(true);
+        }
+    }
+    Ok(false)
 }
 
 fn any_icmp(names: &[Text], packet: &Packet) -> bool
@@ -71,35 +64,60 @@ fn deny(zone: &Zone, packet: &Packet) -> Option<Verdict>
     }
 }
 
-/// Whether a zone lets a packet in: by a service, a port, a protocol or a source port, or with inversion by its ICMP type.
-fn is_allowed(config: &Config, zone: &Zone, packet: &Packet) -> bool
-    ensures { result ≡ ((((list_any (λ name. hits config.now (setting.Service name) packet.now) zone.now.rules.services || list_any (λ port. port_matches port packet.now) zone.now.rules.ports) || list_any (λ protocol. packet.now.proto == protocol) zone.now.rules.protocols) || list_any (λ port. source_port_matches port packet.now) zone.now.rules.source_ports) || (zone.now.inversion && list_any (λ name. hits_icmp name packet.now) zone.now.rules.icmp_blocks)) }
+/// Whether a zone lets a packet in by a port, a protocol or a source port, or with inversion by its ICMP type.
+fn has_entry(zone: &Zone, packet: &Packet) -> bool
+    ensures { result ≡ (((list_any (λ port. port_matches port packet.now) zone.now.rules.ports || list_any (λ protocol. packet.now.proto == protocol) zone.now.rules.protocols) || list_any (λ port. source_port_matches port packet.now) zone.now.rules.source_ports) || (zone.now.inversion && list_any (λ name. hits_icmp name packet.now) zone.now.rules.icmp_blocks)) }
 {
-    any_service(config, zone.rules.services.as_slice(), packet)
-        || any_port(zone.rules.ports.as_slice(), packet)
+    any_port(zone.rules.ports.as_slice(), packet)
         || any_protocol(zone.rules.protocols.as_slice(), packet)
         || any_source_port(zone.rules.source_ports.as_slice(), packet)
         || (zone.inversion && any_icmp(zone.rules.icmp_blocks.as_slice(), packet))
 }
 
-/// What the settings of a zone that let packets in decide.
-fn allow(config: &Config, zone: &Zone, packet: &Packet) -> Option<Verdict>
-    ensures { walk (allow_items config.now zone.now.rules zone.now.inversion) packet.now ≡ silently result }
+/// Whether a zone lets a packet in: by a service, a port, a protocol or a source port, or with inversion by its ICMP type.
+fn is_allowed(alloc: Global, config: &Config, zone: &Zone, packet: &Packet) -> Result<bool, Memory>
+    ensures { IfOk result (λ passes. passes ≡ ((((list_any (λ name. service_hits config.now.services name packet.now) zone.now.rules.services || list_any (λ port. port_matches port packet.now) zone.now.rules.ports) || list_any (λ protocol. packet.now.proto == protocol) zone.now.rules.protocols) || list_any (λ port. source_port_matches port packet.now) zone.now.rules.source_ports) || (zone.now.inversion && list_any (λ name. hits_icmp name packet.now) zone.now.rules.icmp_blocks))) }
 {
-    if is_allowed(config, zone, packet) {
-        Some(Verdict::Accept)
+    let services = any_service(
+        alloc,
+        config.services.as_slice(),
+        zone.rules.services.as_slice(),
+        packet,
+    )?;
+    Ok(services || has_entry(zone, packet))
+}
+
+/// What the settings of a zone that let packets in decide.
+fn allow(
+    alloc: Global,
+    config: &Config,
+    zone: &Zone,
+    packet: &Packet,
+) -> Result<Option<Verdict>, Memory>
+    ensures { IfOk result (λ decided. walk (allow_items config.now zone.now.rules zone.now.inversion) packet.now ≡ silently decided) }
+{
+    let passes = is_allowed(alloc, config, zone, packet)?;
+    if passes {
+        Ok(Some(Verdict::Accept))
     } else {
-        None
+        Ok(None)
     }
 }
 
 /// What the settings of a zone decide of a packet to the host, if anything: what is blocked is rejected, whatever the
 /// zone's target is, and else what is listed is accepted (firewalld.zone(5)).
-pub fn zone_walk(config: &Config, zone: &Zone, packet: &Packet) -> Option<Verdict>
-    ensures { walk (items config.now zone.now) packet.now ≡ silently result }
+///
+/// Refuses for want of memory alone.
+pub fn zone_walk(
+    alloc: Global,
+    config: &Config,
+    zone: &Zone,
+    packet: &Packet,
+) -> Result<Option<Verdict>, Memory>
+    ensures { IfOk result (λ decided. walk (items config.now zone.now) packet.now ≡ silently decided) }
 {
     match deny(zone, packet) {
-        Some(verdict) => Some(verdict),
-        None => allow(config, zone, packet),
+        Some(verdict) => Ok(Some(verdict)),
+        None => allow(alloc, config, zone, packet),
     }
 }

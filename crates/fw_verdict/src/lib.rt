@@ -5,6 +5,7 @@ mod bindings;
 mod hits;
 mod interfaces;
 mod items;
+mod services;
 mod sources;
 mod way;
 

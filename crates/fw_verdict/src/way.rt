@@ -26,7 +26,7 @@ pub fn verdict(alloc: Global, runtime: &Runtime, packet: &Packet) -> Result<Outc
     let verdict = if runtime.panic {
         Verdict::Drop
     } else {
-        filtered(&runtime.config, packet)
+        filtered(alloc, &runtime.config, packet)?
     };
     Ok(Outcome {
         verdict,
@@ -58,15 +58,15 @@ fn route(packet: &Packet) -> Option<&Via>
     }
 }
 
-fn filtered(config: &Config, packet: &Packet) -> Verdict
-    ensures { filtered config.now packet.now packet.now.origin (route packet.now) ≡ decided_as result }
+fn filtered(alloc: Global, config: &Config, packet: &Packet) -> Result<Verdict, Memory>
+    ensures { IfOk result (λ decided. filtered config.now packet.now packet.now.origin (route packet.now) ≡ decided_as decided) }
 {
     match &packet.origin {
-        Origin::Host => Verdict::Accept,
+        Origin::Host => Ok(Verdict::Accept),
         Origin::Link(_) => match route(packet) {
-            Some(Via::Link(name)) => forwarded(config, packet, name.as_str()),
-            Some(Via::Local) => to_host(config, packet),
-            None => to_host(config, packet),
+            Some(Via::Link(name)) => Ok(forwarded(config, packet, name.as_str())),
+            Some(Via::Local) => to_host(alloc, config, packet),
+            None => to_host(alloc, config, packet),
         },
     }
 }
@@ -129,18 +129,18 @@ fn target_to_host(target: ZoneTarget, packet: &Packet) -> Verdict
     }
 }
 
-fn to_host(config: &Config, packet: &Packet) -> Verdict
-    ensures { to_host config.now packet.now ≡ decided_as result }
+fn to_host(alloc: Global, config: &Config, packet: &Packet) -> Result<Verdict, Memory>
+    ensures { IfOk result (λ decided. to_host config.now packet.now ≡ decided_as decided) }
 {
     if let Some(verdict) = early(packet) {
-        return verdict;
+        return Ok(verdict);
     }
     let Some(zone) = ingress(config, packet) else {
-        return Verdict::Drop;
+        return Ok(Verdict::Drop);
     };
-    match zone_walk(config, zone, packet) {
-        Some(verdict) => verdict,
-        None => target_to_host(zone.target, packet),
+    match zone_walk(alloc, config, zone, packet)? {
+        Some(verdict) => Ok(verdict),
+        None => Ok(target_to_host(zone.target, packet)),
     }
 }
 

@@ -5,12 +5,12 @@ use Rattle.fw_verdict.specs.Walk.{silently}
 use Rattle.fw_verdict.proofs.Zones.{allowed}
 use Rattle.fw_verdict.proofs.items.allow.Goals as goal
 
-pub returns-then-is_allowed : goal.returns-then-is_allowed
-returns-then-is_allowed c =
+pub returns-then-passes : goal.returns-then-passes
+returns-then-passes c =
     allowed c.args.config.now c.args.zone.now.rules c.args.zone.now.inversion c.args.packet.now
-    ∙ ap (λ (passes : Bool). silently (if passes then Some Accept else None)) (sym c.is_allowed.ensures ∙ c.if-is_allowed.true)
+    ∙ ap (λ (passes : Bool). silently (if passes then Some Accept else None)) (sym c.in_ok-passes.ensures ∙ c.if-passes.true)
 
-pub returns-else-is_allowed : goal.returns-else-is_allowed
-returns-else-is_allowed c =
+pub returns-else-passes : goal.returns-else-passes
+returns-else-passes c =
     allowed c.args.config.now c.args.zone.now.rules c.args.zone.now.inversion c.args.packet.now
-    ∙ ap (λ (passes : Bool). silently (if passes then Some Accept else None)) (sym c.is_allowed.ensures ∙ c.if-is_allowed.false)
+    ∙ ap (λ (passes : Bool). silently (if passes then Some Accept else None)) (sym c.in_ok-passes.ensures ∙ c.if-passes.false)

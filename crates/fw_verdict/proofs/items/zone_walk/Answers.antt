@@ -1,4 +1,5 @@
 use Rattle.std.proofs.Common.{◌∙◌, Some, None, ap}
+use Rattle.std.proofs.lemmas.Result.{IfOk-weaker}
 use Rattle.fw_verdict.specs.Walk.{silently}
 use Rattle.fw_verdict.proofs.Zones.{allowed, walked}
 use Rattle.fw_verdict.proofs.items.zone_walk.Goals as goal
@@ -11,6 +12,6 @@ returns-in-Some c =
 
 pub returns-in-None : goal.returns-in-None
 returns-in-None c =
-    walked c.args.config.now c.args.zone.now c.args.packet.now None c.allow.result
-    (c.deny.ensures c.args.config.now ∙ ap silently c.in-None.is)
+    IfOk-weaker c.allow.result _ _
+    (λ decided allows. walked c.args.config.now c.args.zone.now c.args.packet.now None decided (c.deny.ensures c.args.config.now ∙ ap silently c.in-None.is) allows)
     c.allow.ensures
