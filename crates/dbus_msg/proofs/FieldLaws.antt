@@ -146,9 +146,9 @@ fields_all origin f body a b c d e g h i j k la path interface member error repl
 -- ---- how long texts may be
 
 name_short : (name : Name) (text : List ℕ) → IsNameField name text → length text < 2 ^ 32
-name_short names.Interface text is = omega (arith, leb-true (length text) 255 (and_parts _ _ is.1).0)
-name_short names.Member text is = omega (arith, leb-true (length text) 255 (and_parts _ _ is.1).0)
-name_short names.Bus text is = omega (arith, leb-true (length text) 255 (and_parts _ _ is.1).0)
+name_short names.Interface text is = omega (arith, leb-true (length text) 255 (and_parts _ _ is).0)
+name_short names.Member text is = omega (arith, leb-true (length text) 255 (and_parts _ _ is).0)
+name_short names.Bus text is = omega (arith, leb-true (length text) 255 (and_parts _ _ is).0)
 
 pub names_short : (name : Name) (found : Option (List ℕ)) → IfSome found (IsNameField name) → IfSome found (λ text. length text < 2 ^ 32)
 names_short name None is = tt

@@ -29,6 +29,7 @@ use Rattle.dbus_msg.specs.declared.known.Name.{Name}
 use Rattle.dbus_msg.specs.declared.known.Name.TheVariants as names
 use Rattle.dbus_msg.specs.declared.message.Fields.{Fields}
 use Rattle.dbus_msg.specs.Known.{code_in, fill, inner_in, item_in, known_from, members_in, name_in, no_fields, number_in, path_in, serial_in, signature_in, with_field}
+use Rattle.dbus_msg.proofs.NameTexts.{name_is_text}
 use Rattle.dbus_msg.specs.Written.{AreFields, field, header_fields, IsBody, IsNameField, IsPathField, number_field, optional, path_field, signature_field, text_field}
 
 -- ---- one level of a value
@@ -79,17 +80,17 @@ take_path (Some t) rest = goes_on 1 111 (value.Path t) rest no_fields (made (Som
 take_interface : (p i : Option (List ℕ)) (rest : List Value) → IfSome i (IsNameField names.Interface) → known_from (optional (text_field 2) i ++ rest) (made p None None None None None None None None) ≡ known_from rest (made p i None None None None None None None)
 unfolding with_field
 take_interface p None rest is = refl
-take_interface p (Some t) rest is = goes_on 2 115 (value.Str t) rest _ (made p (Some t) None None None None None None None) (rw (out_str t, is.1) refl)
+take_interface p (Some t) rest is = goes_on 2 115 (value.Str t) rest _ (made p (Some t) None None None None None None None) (rw (out_str t, is) refl)
 
 take_member : (p i m : Option (List ℕ)) (rest : List Value) → IfSome m (IsNameField names.Member) → known_from (optional (text_field 3) m ++ rest) (made p i None None None None None None None) ≡ known_from rest (made p i m None None None None None None)
 unfolding with_field
 take_member p i None rest is = refl
-take_member p i (Some t) rest is = goes_on 3 115 (value.Str t) rest _ (made p i (Some t) None None None None None None) (rw (out_str t, is.1) refl)
+take_member p i (Some t) rest is = goes_on 3 115 (value.Str t) rest _ (made p i (Some t) None None None None None None) (rw (out_str t, is) refl)
 
 take_error : (p i m e : Option (List ℕ)) (rest : List Value) → IfSome e (IsNameField names.Interface) → known_from (optional (text_field 4) e ++ rest) (made p i m None None None None None None) ≡ known_from rest (made p i m e None None None None None)
 unfolding with_field
 take_error p i m None rest is = refl
-take_error p i m (Some t) rest is = goes_on 4 115 (value.Str t) rest _ (made p i m (Some t) None None None None None) (rw (out_str t, is.1) refl)
+take_error p i m (Some t) rest is = goes_on 4 115 (value.Str t) rest _ (made p i m (Some t) None None None None None) (rw (out_str t, is) refl)
 
 take_reply : (p i m e : Option (List ℕ)) (r : Option ℕ) (rest : List Value) → IfSome r (λ n. (0 < n) × (n < 2 ^ 32)) → known_from (optional (number_field 5) r ++ rest) (made p i m e None None None None None) ≡ known_from rest (made p i m e r None None None None)
 unfolding with_field
@@ -101,12 +102,12 @@ take_reply p i m e (Some n) rest is =
 take_destination : (p i m e : Option (List ℕ)) (r : Option ℕ) (d : Option (List ℕ)) (rest : List Value) → IfSome d (IsNameField names.Bus) → known_from (optional (text_field 6) d ++ rest) (made p i m e r None None None None) ≡ known_from rest (made p i m e r d None None None)
 unfolding with_field
 take_destination p i m e r None rest is = refl
-take_destination p i m e r (Some t) rest is = goes_on 6 115 (value.Str t) rest _ (made p i m e r (Some t) None None None) (rw (out_str t, is.1) refl)
+take_destination p i m e r (Some t) rest is = goes_on 6 115 (value.Str t) rest _ (made p i m e r (Some t) None None None) (rw (out_str t, is) refl)
 
 take_sender : (p i m e : Option (List ℕ)) (r : Option ℕ) (d s : Option (List ℕ)) (rest : List Value) → IfSome s (IsNameField names.Bus) → known_from (optional (text_field 7) s ++ rest) (made p i m e r d None None None) ≡ known_from rest (made p i m e r d s None None)
 unfolding with_field
 take_sender p i m e r d None rest is = refl
-take_sender p i m e r d (Some t) rest is = goes_on 7 115 (value.Str t) rest _ (made p i m e r d (Some t) None None) (rw (out_str t, is.1) refl)
+take_sender p i m e r d (Some t) rest is = goes_on 7 115 (value.Str t) rest _ (made p i m e r d (Some t) None None) (rw (out_str t, is) refl)
 
 -- the signature of a body, which an empty one has not
 abbrev pub body_signature : List Value → Option (List ℕ)
@@ -188,7 +189,7 @@ path_items c (Some t) lt is = one_item _ (item_fits c basic.Path (value.Path t) 
 
 text_items : (c : ℕ) (n : Name) (p : Option (List ℕ)) → c < 256 → IfSome p (IsNameField n) → IfSome p (λ text. length text < 2 ^ 32) → AreItems (optional (text_field c) p)
 text_items c n None lt is short = λ at. tt
-text_items c n (Some t) lt is short = one_item _ (item_fits c basic.Str (value.Str t) lt (t, refl, is.0, short))
+text_items c n (Some t) lt is short = one_item _ (item_fits c basic.Str (value.Str t) lt (t, refl, name_is_text n t is, short))
 
 number_items : (c : ℕ) (p : Option ℕ) → c < 256 → IfSome p (λ n. n < 2 ^ 32) → AreItems (optional (number_field c) p)
 number_items c None lt is = λ at. tt

@@ -5,5 +5,6 @@ pub mod NameLaws
 pub mod StreamLaws
 pub mod FieldLaws
 pub mod PatchLaws
+pub mod NameTexts
 pub mod FieldsRead
 pub mod MessageRead

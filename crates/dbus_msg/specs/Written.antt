@@ -88,7 +88,7 @@ abbrev pub IsPathField : List ℕ → Type 0
 IsPathField text = (is_string string.Path text ≡ true) × (length text < 2 ^ 32)
 
 abbrev pub IsNameField : Name → List ℕ → Type 0
-IsNameField name text = (is_string string.Text text ≡ true) × (is_name name text ≡ true)
+IsNameField name text = is_name name text ≡ true
 
 -- The header fields hold what they may hold ("Header Fields", "Valid Names").
 pub record AreFields (fields : Fields) : Type 0 where

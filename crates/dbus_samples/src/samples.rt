@@ -1,7 +1,8 @@
 //! Messages of several kinds.
 
-ghost use Rattle.std.specs.Prelude.{◌≡◌, ◌<◌, IfOk};
+ghost use Rattle.std.specs.Prelude.{◌≡◌, ◌<◌, ◌∷◌, [], IfOk};
 ghost use Rattle.dbus_msg.specs.Written.{IsMessage};
+ghost use Rattle.dbus_wire.specs.declared.value.Value.TheVariants.{Bool as truth_of};
 ghost use Rattle.dbus_samples.specs.Samples.{return_of};
 
 use dbus_msg::{Fields, Message};
@@ -36,7 +37,8 @@ fn return_with(serial: u32, reply: u32, body: Items<Value>) -> Message
 pub fn pong(alloc: Global, serial: u32, reply: u32) -> Message
     requires serial { 0 < serial }
     requires reply { 0 < reply }
-    ensures { IsMessage result }
+    ensures exact { result ≡ return_of serial reply [] }
+    ensures writable { IsMessage result }
 {
     return_with(serial, reply, Items::new(alloc))
 }
@@ -45,7 +47,8 @@ pub fn pong(alloc: Global, serial: u32, reply: u32) -> Message
 pub fn answer(alloc: Global, serial: u32, reply: u32, truth: bool) -> Result<Message, Memory>
     requires serial { 0 < serial }
     requires reply { 0 < reply }
-    ensures { IfOk result IsMessage }
+    ensures exact { IfOk result (λ message. message ≡ return_of serial reply (truth_of truth ∷ [])) }
+    ensures writable { IfOk result IsMessage }
 {
     let mut body = Items::new(alloc);
     body.push(Value::Bool(truth))?;
