@@ -3,3 +3,8 @@ pub mod CutLaws
 pub mod KnownLaws
 pub mod NameLaws
 pub mod StreamLaws
+pub mod FieldLaws
+pub mod PatchLaws
+pub mod NameTexts
+pub mod FieldsRead
+pub mod MessageRead

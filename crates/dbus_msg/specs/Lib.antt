@@ -5,3 +5,5 @@ pub mod Messages
 pub mod Streams
 pub mod Cuts
 pub mod Kept
+pub mod Written
+pub mod Starts

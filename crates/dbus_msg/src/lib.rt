@@ -9,6 +9,7 @@ mod laws;
 mod message;
 mod names;
 mod reading;
+mod writing;
 
 pub use decoder::{Decoder, Fed, FeedEnd};
 pub use header::{Header, read_header};
@@ -16,3 +17,4 @@ pub use laws::{a_stream_is_cut_in_one_way, pieces_make_no_difference};
 pub use message::{Fields, Message};
 pub use names::{is_bus_name, is_interface, is_member};
 pub use reading::read_message;
+pub use writing::write_message;

@@ -1,4 +1,4 @@
-//! Rows of the D-Bus crates: lines of authentication, signatures, messages, and values of each type in both byte orders, read and
+//! Rows of the D-Bus crates: lines of authentication, signatures, messages read and written, and values of each type in both byte orders, read and
 //! written again.
 #![tactic(auto)]
 
@@ -9,6 +9,8 @@ pub use again::again_at;
 #[cfg(test)]
 mod auth_tests;
 #[cfg(test)]
+mod field_tests;
+#[cfg(test)]
 mod message_tests;
 #[cfg(test)]
 mod signature_tests;
@@ -16,3 +18,5 @@ mod signature_tests;
 mod tests;
 #[cfg(test)]
 mod value_tests;
+#[cfg(test)]
+mod written_tests;

@@ -136,3 +136,38 @@ fn a_stream_in_pieces_gives_its_messages(rt: HostRuntime) -> Result<(), Fail> {
     );
     Ok(())
 }
+
+/// The end of a stream of 16 bytes that begin a return with these lengths of the body and the header fields.
+fn started(alloc: Global, body_len: u32, fields_len: u32) -> FeedEnd {
+    let [a, b, c, d] = body_len.to_le_bytes();
+    let [e, f, g, h] = fields_len.to_le_bytes();
+    let bytes = [b'l', 2, 1, 1, a, b, c, d, 1, 0, 0, 0, e, f, g, h];
+    let mut decoder = Decoder::new(alloc);
+    decoder.feed(&bytes).end
+}
+
+#[test]
+fn lengths_have_limits(rt: HostRuntime) -> Result<(), Fail> {
+    let alloc = rt.alloc();
+    assert_eq!(rt; started(alloc, 0, 67_108_864), FeedEnd::Open);
+    assert_eq!(rt; started(alloc, 0, 67_108_865), FeedEnd::Bad(0));
+    assert_eq!(rt; started(alloc, 134_217_704, 8), FeedEnd::Open);
+    assert_eq!(rt; started(alloc, 134_217_705, 8), FeedEnd::Bad(0));
+    Ok(())
+}
+
+#[test]
+fn a_stream_cut_anywhere_gives_its_messages(rt: HostRuntime) -> Result<(), Fail> {
+    let alloc = rt.alloc();
+    for place in 0..=88usize {
+        let (first, second) = PING.split_at(place.min(88));
+        let mut decoder = Decoder::new(alloc);
+        let before = decoder.feed(first);
+        assert_eq!(rt; before.messages.len(), if place < 88 { 0 } else { 1 });
+        assert_eq!(rt; decoder.is_between(), place == 0 || place == 88);
+        let after = decoder.feed(second);
+        assert_eq!(rt; after.messages.len(), if place < 88 { 1 } else { 0 });
+        assert!(rt; decoder.is_between());
+    }
+    Ok(())
+}

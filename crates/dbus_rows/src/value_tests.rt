@@ -17,7 +17,9 @@ fn read(
     }
     match read_value(alloc, &signature, bytes, offset, endian) {
         Ok((value, end)) => {
-            if !value.copy(alloc)?.is_same(&value) {
+            let copied = format!(in alloc; "{:?}", value.copy(alloc)?)?;
+            let shown = format!(in alloc; "{value:?}")?;
+            if copied.as_str() != shown.as_str() {
                 return Err(Fail::from("the copy is another value"));
             }
             Ok(Ok(end))

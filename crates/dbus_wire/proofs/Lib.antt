@@ -18,3 +18,4 @@ pub mod SignatureBlames
 pub mod ValueBlames
 pub mod WrittenLaws
 pub mod RowLaws
+pub mod TypeLaws

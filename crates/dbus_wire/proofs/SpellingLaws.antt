@@ -1,5 +1,5 @@
 -- How each value is spelt, one level at a time.
-use Rattle.std.proofs.Common.{◌≡◌, ℕ, ◌+◌, ◌<◌, Bool, List, [], ◌∷◌, ◌++◌, length, get_or, take, drop, sym, ap, ◌∙◌, append_assoc, arith}
+use Rattle.std.proofs.Common.{◌≡◌, ℕ, ◌+◌, ◌-◌, ◌<◌, ◌≤◌, Bool, List, [], ◌∷◌, ◌++◌, length, get_or, take, drop, sym, ap, ◌∙◌, append_assoc, arith}
 use Rattle.std.specs.Prelude.{ℤ}
 use Rattle.std.specs.Int.{w16, w32, w64, cast_unsigned}
 use Rattle.std.proofs.lemmas.List.{append-nil, length-append, take_more, take-append-drop}
@@ -10,7 +10,7 @@ use Rattle.dbus_wire.specs.declared.value.Value.TheVariants.{rolls-Byte, rolls-B
 use Rattle.dbus_wire.specs.declared.value.Value.TheOpen.{Value-F}
 use Rattle.dbus_wire.specs.declared.value.Value.TheViews.{roll-Value}
 use Rattle.dbus_wire.specs.declared.value.Value.TheFolds.{fold-roll-Value}
-use Rattle.dbus_wire.specs.Spelling.{spelling, spellings, spelling_step, aligned, bit, text_spelling, signature_spelling, array_spelling, behind_padding}
+use Rattle.dbus_wire.specs.Spelling.{spelling, spellings, spelling_step, aligned, bit, text_spelling, signature_spelling, array_spelling, behind_padding, padding}
 use Rattle.dbus_wire.specs.Alignment.{element_alignment}
 
 rolled : (e : Endian) (v : Value) (x : Value-F Value) (at : ℕ) → roll-Value x ≡ v → spelling e v at ≡ spelling e (roll-Value x) at
@@ -88,23 +88,64 @@ spellings_more e vs i at v lt is =
     ∙ spellings_append e (take i vs) (v ∷ []) at
     ∙ ap (λ (t : List ℕ). spellings e (take i vs) at ++ t) (append-nil (spelling e v (at + length (spellings e (take i vs) at))))
 
+-- where bytes end that count from an origin, when more are appended
+pub ends_behind : (base more : List ℕ) (origin : ℕ) → origin ≤ length base → length (base ++ more) - origin ≡ (length base - origin) + length more
+ends_behind base more origin le = omega (arith, le, length-append base more)
+
+pub still_behind : (base more new : List ℕ) (origin : ℕ) → origin ≤ length base → new ≡ base ++ more → origin ≤ length new
+still_behind base more new origin le is = omega (arith, le, ap length is, length-append base more)
+
+-- a key and a value behind padding, and a value behind its signature
+pub pair_pushed : (e : Endian) (key inner : Value) (origin : ℕ) (old padded keyed new : List ℕ) → origin ≤ length old → padded ≡ old ++ padding 8 (length old - origin) → keyed ≡ padded ++ spelling e key (length padded - origin)
+    → new ≡ keyed ++ spelling e inner (length keyed - origin) → new ≡ old ++ spelling e (value.Pair key inner) (length old - origin)
+pair_pushed e key inner origin old padded keyed new le pads keys is =
+    let at = length old - origin in
+    let pad = padding 8 at in
+    let first = spelling e key (at + length pad) in
+    let start : length padded - origin ≡ at + length pad = ap (λ (t : List ℕ). length t - origin) pads ∙ ends_behind old pad origin le in
+    let behind : keyed ≡ padded ++ first = keys ∙ ap (λ (n : ℕ). padded ++ spelling e key n) start in
+    let later : origin ≤ length padded = omega (arith, le, ap length pads, length-append old pad) in
+    let middle : length keyed - origin ≡ at + length pad + length first = ap (λ (t : List ℕ). length t - origin) behind ∙ ends_behind padded first origin later ∙ ap (λ (n : ℕ). n + length first) start in
+    let second = spelling e inner (at + length pad + length first) in
+    is
+    ∙ ap (λ (n : ℕ). keyed ++ spelling e inner n) middle
+    ∙ ap (λ (t : List ℕ). t ++ second) (behind ∙ ap (λ (t : List ℕ). t ++ first) pads)
+    ∙ append_assoc (old ++ pad) first second
+    ∙ append_assoc old pad (first ++ second)
+    ∙ ap (λ (t : List ℕ). old ++ t) (ap (λ (t : List ℕ). pad ++ (first ++ t)) (sym (append-nil second)) ∙ sym (spelt_pair e key inner at))
+
+pub variant_pushed : (e : Endian) (codes : List ℕ) (inner : Value) (origin : ℕ) (old signed new : List ℕ) → origin ≤ length old → signed ≡ old ++ signature_spelling codes
+    → new ≡ signed ++ spelling e inner (length signed - origin) → new ≡ old ++ spelling e (value.Variant codes inner) (length old - origin)
+variant_pushed e codes inner origin old signed new le signs is =
+    let at = length old - origin in
+    let head = signature_spelling codes in
+    let here : length signed - origin ≡ at + length head = ap (λ (t : List ℕ). length t - origin) signs ∙ ends_behind old head origin le in
+    let text = spelling e inner (at + length head) in
+    is
+    ∙ ap (λ (n : ℕ). signed ++ spelling e inner n) here
+    ∙ ap (λ (t : List ℕ). t ++ text) signs
+    ∙ append_assoc old head text
+    ∙ ap (λ (t : List ℕ). old ++ t) (sym (spelt_variant e codes inner at))
+
 -- what a loop over values has written so far
-pub row_goes_on : (e : Endian) (vs : List Value) (i : ℕ) (v : Value) (base out new : List ℕ) → i < length vs → v ≡ get_or vs i v
-    → out ≡ base ++ spellings e (take i vs) (length base) → new ≡ out ++ spelling e v (length out) → new ≡ base ++ spellings e (take (i + 1) vs) (length base)
-row_goes_on e vs i v base out new lt is before after =
-    let row = spellings e (take i vs) (length base) in
-    let here : length out ≡ length base + length row = ap length before ∙ length-append base row in
-    after ∙ ap (λ (t : List ℕ). t ++ spelling e v (length out)) before
-    ∙ append_assoc base row (spelling e v (length out))
-    ∙ ap (λ (t : List ℕ). base ++ t) (ap (λ (n : ℕ). row ++ spelling e v n) here ∙ sym (spellings_more e vs i (length base) v lt is))
+pub row_goes_on : (e : Endian) (vs : List Value) (i : ℕ) (v : Value) (base out new : List ℕ) (origin : ℕ) → i < length vs → v ≡ get_or vs i v → origin ≤ length base
+    → out ≡ base ++ spellings e (take i vs) (length base - origin) → new ≡ out ++ spelling e v (length out - origin) → new ≡ base ++ spellings e (take (i + 1) vs) (length base - origin)
+row_goes_on e vs i v base out new origin lt is le before after =
+    let from = length base - origin in
+    let row = spellings e (take i vs) from in
+    let here : length out - origin ≡ from + length row = ap (λ (t : List ℕ). length t - origin) before ∙ ends_behind base row origin le in
+    after ∙ ap (λ (t : List ℕ). t ++ spelling e v (length out - origin)) before
+    ∙ append_assoc base row (spelling e v (length out - origin))
+    ∙ ap (λ (t : List ℕ). base ++ t) (ap (λ (n : ℕ). row ++ spelling e v n) here ∙ sym (spellings_more e vs i from v lt is))
 
 -- one of several values is no longer than all of them
-pub item_short : (e : Endian) (vs : List Value) (i : ℕ) (v : Value) (base out : List ℕ) (bound : ℕ) → i < length vs → v ≡ get_or vs i v
-    → out ≡ base ++ spellings e (take i vs) (length base) → length (spellings e vs (length base)) < bound → length (spelling e v (length out)) < bound
-item_short e vs i v base out bound lt is before short =
-    let row = spellings e (take i vs) (length base) in
-    let here : length out ≡ length base + length row = ap length before ∙ length-append base row in
-    let more = spellings_more e vs i (length base) v lt is in
-    let split : spellings e vs (length base) ≡ spellings e (take (i + 1) vs) (length base) ++ spellings e (drop (i + 1) vs) (length base + length (spellings e (take (i + 1) vs) (length base)))
-    = ap (λ (xs : List Value). spellings e xs (length base)) (sym (take-append-drop (i + 1) vs)) ∙ spellings_append e (take (i + 1) vs) (drop (i + 1) vs) (length base) in
-    rw here (omega (arith, short, ap length split ∙ length-append (spellings e (take (i + 1) vs) (length base)) _, ap length more ∙ length-append row (spelling e v (length base + length row))))
+pub item_short : (e : Endian) (vs : List Value) (i : ℕ) (v : Value) (base out : List ℕ) (origin bound : ℕ) → i < length vs → v ≡ get_or vs i v → origin ≤ length base
+    → out ≡ base ++ spellings e (take i vs) (length base - origin) → length (spellings e vs (length base - origin)) < bound → length (spelling e v (length out - origin)) < bound
+item_short e vs i v base out origin bound lt is le before short =
+    let from = length base - origin in
+    let row = spellings e (take i vs) from in
+    let here : length out - origin ≡ from + length row = ap (λ (t : List ℕ). length t - origin) before ∙ ends_behind base row origin le in
+    let more = spellings_more e vs i from v lt is in
+    let split : spellings e vs from ≡ spellings e (take (i + 1) vs) from ++ spellings e (drop (i + 1) vs) (from + length (spellings e (take (i + 1) vs) from))
+    = ap (λ (xs : List Value). spellings e xs from) (sym (take-append-drop (i + 1) vs)) ∙ spellings_append e (take (i + 1) vs) (drop (i + 1) vs) from in
+    rw here (omega (arith, short, ap length split ∙ length-append (spellings e (take (i + 1) vs) from) _, ap length more ∙ length-append row (spelling e v (from + length row))))

@@ -83,7 +83,7 @@ array_again e align item said reads vs at rest is =
 
 -- ---- members
 
-members_again : (e : Endian) (read : Kind → Reader Value) (said : Kind → Said) → ((k : Kind) → Reads e (said k) (read k)) → (ks : List Kind) (vs : List Value) (at : ℕ) (rest : List ℕ) → Members e said ks vs at
+pub members_again : (e : Endian) (read : Kind → Reader Value) (said : Kind → Said) → ((k : Kind) → Reads e (said k) (read k)) → (ks : List Kind) (vs : List Value) (at : ℕ) (rest : List ℕ) → Members e said ks vs at
     → members_at read ks at (spellings e vs at ++ rest) ≡ found vs (at + length (spellings e vs at)) rest
 unfolding members_at
 members_again e read said reads [] [] at rest fit = moved_to [] at (at + 0) rest (omega arith)

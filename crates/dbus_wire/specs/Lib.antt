@@ -8,3 +8,4 @@ pub mod Spelling
 pub mod Fits
 pub mod Appending
 pub mod Faults
+pub mod TypeCodes

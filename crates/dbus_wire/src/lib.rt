@@ -3,7 +3,6 @@
 
 mod alignment;
 mod basics;
-mod comparing;
 mod containers;
 mod copying;
 mod fields;
@@ -13,6 +12,7 @@ mod read;
 mod showing;
 mod strings;
 mod texts;
+mod typing;
 mod value;
 mod writing;
 
@@ -21,6 +21,8 @@ pub use laws::{
     a_fault_where_nothing_is_spelt, no_spelling_begins_another, read_is_written_again,
     written_is_read,
 };
+pub use numbers::{push_padding, push_text, push_u32, set_u32};
 pub use read::{read_value, read_values};
+pub use typing::push_types;
 pub use value::{Endian, Value};
-pub use writing::write_value;
+pub use writing::{push_values, write_value};

@@ -1,6 +1,6 @@
 //! Writes values.
 
-ghost use Rattle.std.specs.Prelude.{◌≡◌, ◌<◌, ◌≤◌, ◌^◌, ◌++◌, drop, length, OnOk, OnErr};
+ghost use Rattle.std.specs.Prelude.{◌≡◌, ◌<◌, ◌≤◌, ◌-◌, ◌^◌, ◌++◌, drop, length, OnOk, OnErr};
 ghost use Rattle.dbus_signature.specs.declared.kind.Kind.{Kind};
 ghost use Rattle.dbus_wire.specs.Appending.{Keeps};
 ghost use Rattle.dbus_wire.specs.Fits.{Fits, HasSpelling, Spells};
@@ -14,12 +14,13 @@ use crate::numbers::{
 use crate::value::{Endian, Value};
 use fw_base::Memory;
 
-/// Appends the spelling of a value at the offset where the bytes end.
+/// Appends the spelling of a value at the offset where the bytes end, which counts from the origin.
 #[cycle(writing)]
 #[tactic(auto, using(crate::proofs::SpellingLaws::spelt, crate::proofs::KeepsLaws::keeping))]
-fn push_value(out: &mut Vec<u8>, endian: Endian, value: &Value) -> Result<(), Memory>
-    requires { length (spelling endian value.now (length out.old.items)) < 2 ^ 32 }
-    ensures ok { OnOk result (out.new.items ≡ out.old.items ++ spelling endian value.now (length out.old.items)) }
+fn push_value(out: &mut Vec<u8>, origin: usize, endian: Endian, value: &Value) -> Result<(), Memory>
+    requires origin { origin ≤ length out.old.items }
+    requires short { length (spelling endian value.now (length out.old.items - origin)) < 2 ^ 32 }
+    ensures ok { OnOk result (out.new.items ≡ out.old.items ++ spelling endian value.now (length out.old.items - origin)) }
     ensures err { OnErr result (Keeps out.old.items out.new.items) }
 {
     match value {
@@ -27,48 +28,55 @@ fn push_value(out: &mut Vec<u8>, endian: Endian, value: &Value) -> Result<(), Me
             out.push(*byte)?;
             Ok(())
         }
-        Value::Bool(truth) => push_u32(out, endian, if *truth { 1 } else { 0 }),
-        Value::I16(number) => push_u16(out, endian, number.cast_unsigned()),
-        Value::U16(number) => push_u16(out, endian, *number),
-        Value::I32(number) => push_u32(out, endian, number.cast_unsigned()),
-        Value::U32(number) => push_u32(out, endian, *number),
-        Value::Fd(number) => push_u32(out, endian, *number),
-        Value::I64(number) => push_u64(out, endian, number.cast_unsigned()),
-        Value::U64(number) => push_u64(out, endian, *number),
-        Value::Double(number) => push_u64(out, endian, *number),
-        Value::Str(text) => push_text(out, endian, text.as_str()),
-        Value::Path(text) => push_text(out, endian, text.as_str()),
+        Value::Bool(truth) => push_u32(out, origin, endian, if *truth { 1 } else { 0 }),
+        Value::I16(number) => push_u16(out, origin, endian, number.cast_unsigned()),
+        Value::U16(number) => push_u16(out, origin, endian, *number),
+        Value::I32(number) => push_u32(out, origin, endian, number.cast_unsigned()),
+        Value::U32(number) => push_u32(out, origin, endian, *number),
+        Value::Fd(number) => push_u32(out, origin, endian, *number),
+        Value::I64(number) => push_u64(out, origin, endian, number.cast_unsigned()),
+        Value::U64(number) => push_u64(out, origin, endian, *number),
+        Value::Double(number) => push_u64(out, origin, endian, *number),
+        Value::Str(text) => push_text(out, origin, endian, text.as_str()),
+        Value::Path(text) => push_text(out, origin, endian, text.as_str()),
         Value::Sig(signature) => push_signature(out, signature.as_bytes()),
         Value::Array(signature, items) => {
             let align = element_alignment(signature.as_bytes());
-            push_array(out, endian, align, items.as_slice())
+            push_array(out, origin, endian, align, items.as_slice())
         }
         Value::Struct(members) => {
-            push_padding(out, 8)?;
-            push_all(out, endian, members.as_slice())
+            push_padding(out, origin, 8)?;
+            push_values(out, origin, endian, members.as_slice())
         }
         Value::Pair(key, inner) => {
-            push_padding(out, 8)?;
-            push_value(out, endian, key.get())?;
-            push_value(out, endian, inner.get())
+            push_padding(out, origin, 8)?;
+            push_value(out, origin, endian, key.get())?;
+            push_value(out, origin, endian, inner.get())
         }
         Value::Variant(signature, inner) => {
             push_signature(out, signature.as_bytes())?;
-            push_value(out, endian, inner.get())
+            push_value(out, origin, endian, inner.get())
         }
     }
 }
 
-/// Appends the spellings of values one after the other.
+/// Appends the spellings of values one after the other, at offsets that count from the origin. What is refused for want
+/// of memory leaves the old bytes in front.
 #[cycle(writing)]
 #[tactic(auto, using(crate::proofs::KeepsLaws::keeping))]
-fn push_all(out: &mut Vec<u8>, endian: Endian, values: &[Value]) -> Result<(), Memory>
-    requires { length (spellings endian values.now (length out.old.items)) < 2 ^ 32 }
-    ensures ok { OnOk result (out.new.items ≡ out.old.items ++ spellings endian values.now (length out.old.items)) }
+pub fn push_values(
+    out: &mut Vec<u8>,
+    origin: usize,
+    endian: Endian,
+    values: &[Value],
+) -> Result<(), Memory>
+    requires origin { origin ≤ length out.old.items }
+    requires short { length (spellings endian values.now (length out.old.items - origin)) < 2 ^ 32 }
+    ensures ok { OnOk result (out.new.items ≡ out.old.items ++ spellings endian values.now (length out.old.items - origin)) }
     ensures err { OnErr result (Keeps out.old.items out.new.items) }
 {
     for value in values {
-        push_value(out, endian, value)?;
+        push_value(out, origin, endian, value)?;
     }
     Ok(())
 }
@@ -78,22 +86,24 @@ fn push_all(out: &mut Vec<u8>, endian: Endian, values: &[Value]) -> Result<(), M
 #[tactic(auto, using(crate::proofs::KeepsLaws::keeping))]
 fn push_array(
     out: &mut Vec<u8>,
+    origin: usize,
     endian: Endian,
     align: usize,
     values: &[Value],
 ) -> Result<(), Memory>
+    requires origin { origin ≤ length out.old.items }
     requires some { 0 < align }
     requires aligned { align ≤ 8 }
-    requires short { length (array_spelling endian align (spellings endian values.now) (length out.old.items)) < 2 ^ 32 }
-    ensures ok { OnOk result (out.new.items ≡ out.old.items ++ array_spelling endian align (spellings endian values.now) (length out.old.items)) }
+    requires short { length (array_spelling endian align (spellings endian values.now) (length out.old.items - origin)) < 2 ^ 32 }
+    ensures ok { OnOk result (out.new.items ≡ out.old.items ++ array_spelling endian align (spellings endian values.now) (length out.old.items - origin)) }
     ensures err { OnErr result (Keeps out.old.items out.new.items) }
 {
-    push_padding(out, 4)?;
+    push_padding(out, origin, 4)?;
     let place = out.len();
     out.extend_from_slice(&[0; 4])?;
-    push_padding(out, align)?;
+    push_padding(out, origin, align)?;
     let start = out.len();
-    push_all(out, endian, values)?;
+    push_values(out, origin, endian, values)?;
     let count = (out.len() - start) as u32;
     set_u32(out, place, endian, count);
     Ok(())
@@ -113,7 +123,7 @@ pub fn write_value(value: &Value, endian: Endian, out: &mut Vec<u8>) -> Result<(
     ensures err { OnErr result (out.new.items ≡ out.old.items) }
 {
     let end = out.as_slice().len();
-    let written = push_value(out, endian, value);
+    let written = push_value(out, 0, endian, value);
     if written.is_err() {
         out.truncate(end);
     }
