@@ -28,11 +28,7 @@ fn source(
     Ok(ListSource::new(bytes, cut, failing.to_vec(alloc)?))
 }
 
-fn run(
-    alloc: Global,
-    source: &mut ListSource,
-    sink: &mut ListSink,
-) -> Result<Ran, AllocError> {
+fn run(alloc: Global, source: &mut ListSource, sink: &mut ListSink) -> Result<Ran, AllocError> {
     Ok(top_run(alloc, words(alloc, "run")?.as_slice(), source, sink))
 }
 
