@@ -1,9 +1,10 @@
 //! Configurations, a line for each zone.
-use fw_addr::{Family, PortProto, read_iface, read_mac, read_net, read_ports};
+use fw_addr::{Family, PortProto, read_iface, read_mac, read_net, read_ports, read_proto};
 use fw_base::{Seq, Text};
 use fw_model::{
-    Binding, Config, IpSet, Item, LogDenied, Notes, Port, Rules, SetKind, Zone, ZoneTarget,
+    Binding, Config, IpSet, Item, LogDenied, Notes, Port, Rules, Service, SetKind, Zone, ZoneTarget,
 };
+use fw_service::built_in_services;
 use std::alloc::Global;
 
 fn text(alloc: Global, text: &str) -> Option<Text> {
@@ -53,14 +54,18 @@ fn target(word: &str) -> ZoneTarget {
     }
 }
 
-fn rules(alloc: Global, port_word: &str, icmp: &str) -> Option<Rules> {
+fn rules(alloc: Global, port_word: &str, icmp: &str, service_word: Option<&str>) -> Option<Rules> {
+    let service = match service_word {
+        Some(word) => Some(text(alloc, word)?),
+        None => None,
+    };
     let block = if icmp == "-" {
         None
     } else {
         Some(text(alloc, icmp)?)
     };
     Some(Rules {
-        services: Seq::new(alloc),
+        services: list(alloc, service)?,
         ports: list(alloc, port(port_word))?,
         protocols: Seq::new(alloc),
         source_ports: Seq::new(alloc),
@@ -71,7 +76,8 @@ fn rules(alloc: Global, port_word: &str, icmp: &str) -> Option<Rules> {
     })
 }
 
-/// A zone by its name, target, `inversion` or `forward`, interface, source, TCP port and ICMP block; `-` stands for none.
+/// A zone by its name, target, `inversion` or `forward`, interface, source, TCP port, ICMP block, and a service, which may be left
+/// out; `-` stands for none.
 fn zone(alloc: Global, line: &str) -> Option<Zone> {
     let mut words = line.split(' ');
     let name = text(alloc, words.next()?)?;
@@ -85,7 +91,7 @@ fn zone(alloc: Global, line: &str) -> Option<Zone> {
         name,
         notes: notes(alloc)?,
         target,
-        rules: rules(alloc, port, icmp)?,
+        rules: rules(alloc, port, icmp, words.next())?,
         inversion: flag == "inversion",
         forward: flag == "forward",
         interfaces: list(alloc, iface)?,
@@ -126,14 +132,43 @@ fn sets(alloc: Global) -> Option<Seq<IpSet>> {
     Some(sets)
 }
 
-/// The zones of these lines, the sets `nets`, `fading` and `macs`, and `public` as the default zone.
-pub fn config(alloc: Global, lines: &str) -> Option<Config> {
+/// A service by its name, TCP port, protocol, source port, and a service that it includes; `-` stands for none.
+fn service(alloc: Global, line: &str) -> Option<Service> {
+    let mut words = line.split(' ');
+    let name = text(alloc, words.next()?)?;
+    let open = port(words.next()?);
+    let protocol = read_proto(words.next()?).ok();
+    let source = port(words.next()?);
+    let included = text(alloc, words.next()?)?;
+    Some(Service {
+        name,
+        includes: list(alloc, Some(included))?,
+        ports: list(alloc, open)?,
+        protocols: list(alloc, protocol)?,
+        source_ports: list(alloc, source)?,
+        v4: None,
+        v6: None,
+    })
+}
+
+/// The built-in services, and those of these lines.
+fn services(alloc: Global, lines: &str) -> Option<Seq<Service>> {
+    let mut services = built_in_services(alloc).ok()?;
+    for line in lines.lines() {
+        services.push(service(alloc, line)?).ok()?;
+    }
+    Some(services)
+}
+
+/// The zones of these lines, the services of others beside the built-in ones, the sets `nets`, `fading` and `macs`, and `public`
+/// as the default zone.
+pub fn config(alloc: Global, lines: &str, service_lines: &str) -> Option<Config> {
     Some(Config {
         default_zone: text(alloc, "public")?,
         log_denied: LogDenied::Off,
         zones: zones(alloc, lines)?,
         policies: Seq::new(alloc),
-        services: Seq::new(alloc),
+        services: services(alloc, service_lines)?,
         ipsets: sets(alloc)?,
     })
 }

@@ -7,3 +7,5 @@ mod configs;
 mod packets;
 #[cfg(test)]
 mod rows;
+#[cfg(test)]
+mod service_rows;

@@ -31,26 +31,33 @@ fn routes(alloc: Global, word: &str) -> Option<Seq<(Net, Via)>> {
     Some(routes)
 }
 
+/// The address of this word, or without one the host's address in the family of the sender's.
+fn destination(src: Addr, word: Option<&str>) -> Option<Addr> {
+    let word = match (word, src) {
+        (Some(word), _) => word,
+        (None, Addr::V4(_)) => "198.51.100.1",
+        (None, Addr::V6(_)) => "2001:db8::1",
+    };
+    read_addr(word).ok()
+}
+
 /// The number behind a protocol: a destination port, or for ICMP a type.
 fn number(word: &str) -> Option<u16> {
     word.parse::<u16>().ok()
 }
 
-/// A packet by its interface, source, hardware address, protocol, port or type, state, and the interface that it leaves by; `-`
-/// stands for none. With the state `dnat` its connection's destination is translated.
+/// A packet by its interface, source, hardware address, protocol, port or type, state, the interface that it leaves by, and its
+/// destination, which may be left out; `-` stands for none. With the state `dnat` its connection's destination is translated.
 pub fn packet(alloc: Global, line: &str) -> Option<Packet> {
     let mut words = line.split(' ');
     let origin = origin(alloc, words.next()?)?;
     let src = read_addr(words.next()?).ok()?;
-    let dst = match src {
-        Addr::V4(_) => read_addr("198.51.100.1").ok()?,
-        Addr::V6(_) => read_addr("2001:db8::1").ok()?,
-    };
     let mac = read_mac(words.next()?).ok();
     let proto: Proto = read_proto(words.next()?).ok()?;
     let number = number(words.next()?)?;
     let state_word = words.next()?;
     let routes = routes(alloc, words.next()?)?;
+    let dst = destination(src, words.next())?;
     Some(Packet {
         origin,
         src,

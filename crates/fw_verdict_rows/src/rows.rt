@@ -13,18 +13,21 @@ fn word(verdict: Verdict) -> &'static str {
     }
 }
 
-fn outcome(alloc: Global, panic: bool, zones: &str, line: &str) -> Option<Outcome> {
-    let config = config(alloc, zones)?;
-    let runtime = Runtime { panic, config };
-    verdict(alloc, &runtime, &packet(alloc, line)?).ok()
+fn outcome(alloc: Global, runtime: &Runtime, line: &str) -> Option<Outcome> {
+    verdict(alloc, runtime, &packet(alloc, line)?).ok()
+}
+
+fn runtime(alloc: Global, panic: bool, zones: &str) -> Option<Runtime> {
+    let config = config(alloc, zones, "")?;
+    Some(Runtime { panic, config })
 }
 
 /// Whether a packet gets the verdict that its line ends with, keeps its mark, and gets nothing else.
-fn is_as_told(alloc: Global, panic: bool, zones: &str, row: &str) -> bool {
+pub fn is_as_told_in(alloc: Global, runtime: &Runtime, row: &str) -> bool {
     let Some((line, want)) = row.rsplit_once(' ') else {
         return false;
     };
-    match outcome(alloc, panic, zones, line) {
+    match outcome(alloc, runtime, line) {
         Some(outcome) => {
             word(outcome.verdict) == want
                 && outcome.mark == 7
@@ -32,6 +35,13 @@ fn is_as_told(alloc: Global, panic: bool, zones: &str, row: &str) -> bool {
                 && !outcome.masquerade
                 && outcome.logs.as_slice().is_empty()
         }
+        None => false,
+    }
+}
+
+fn is_as_told(alloc: Global, panic: bool, zones: &str, row: &str) -> bool {
+    match runtime(alloc, panic, zones) {
+        Some(runtime) => is_as_told_in(alloc, &runtime, row),
         None => false,
     }
 }

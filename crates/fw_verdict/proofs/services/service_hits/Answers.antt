@@ -1,5 +1,4 @@
 use Rattle.std.proofs.Common.{◌∙◌, sym, ap, List, ℕ}
-use Rattle.fw_closure.specs.Includes.{AreReached}
 use Rattle.fw_verdict.proofs.Reached.{no_member_hits, none_may_hit, own_hits_it, reached_hits}
 use Rattle.fw_verdict.specs.Members.{hits_among}
 use Rattle.fw_verdict.proofs.services.service_hits.Goals as goal
