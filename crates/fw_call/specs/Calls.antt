@@ -35,6 +35,9 @@ setting_words kind.Protocol words = do
 setting_words kind.IcmpBlock words = do
   name ← next words
   Some (setting.IcmpBlock name.0, name.1)
+setting_words kind.Service words = do
+  name ← next words
+  Some (setting.Service name.0, name.1)
 
 -- the timeout of a setting that is added: none, as the number 0
 abbrev pub timeout : Verb → List (List ℕ) → Option (List (List ℕ))
@@ -82,6 +85,7 @@ arguments (member.ZoneOf kind) words = zone_of_call kind words
 arguments member.Zones words = at_end call.Zones words
 arguments member.ActiveZones words = at_end call.ActiveZones words
 arguments member.DefaultZone words = at_end call.DefaultZone words
+arguments member.Services words = at_end call.Services words
 
 -- a member by its name, and its arguments
 unfoldable pub call_of : List (List ℕ) → Option Call

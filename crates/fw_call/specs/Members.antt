@@ -3,7 +3,7 @@
 use Rattle.std.specs.Prelude.{ℕ, codes, List, [], ◌∷◌}
 use Rattle.fw_call.specs.declared.member.BindingKind.TheVariants as bound
 use Rattle.fw_call.specs.declared.member.Member.{Member}
-use Rattle.fw_call.specs.declared.member.Member.TheVariants.{Setting, Inversion, Binding, ChangeZone, ZoneOf, Zones, ActiveZones, DefaultZone}
+use Rattle.fw_call.specs.declared.member.Member.TheVariants.{Setting, Inversion, Binding, ChangeZone, ZoneOf, Zones, ActiveZones, DefaultZone, Services}
 use Rattle.fw_call.specs.declared.member.SettingKind.TheVariants as kind
 use Rattle.fw_call.specs.declared.member.Verb.TheVariants.{Add, Remove, Query}
 
@@ -21,6 +21,9 @@ members =
     (codes "zone.addIcmpBlock", Setting Add kind.IcmpBlock) ∷
     (codes "zone.removeIcmpBlock", Setting Remove kind.IcmpBlock) ∷
     (codes "zone.queryIcmpBlock", Setting Query kind.IcmpBlock) ∷
+    (codes "zone.addService", Setting Add kind.Service) ∷
+    (codes "zone.removeService", Setting Remove kind.Service) ∷
+    (codes "zone.queryService", Setting Query kind.Service) ∷
     (codes "zone.addIcmpBlockInversion", Inversion Add) ∷
     (codes "zone.removeIcmpBlockInversion", Inversion Remove) ∷
     (codes "zone.queryIcmpBlockInversion", Inversion Query) ∷
@@ -37,4 +40,5 @@ members =
     (codes "zone.getZones", Zones) ∷
     (codes "zone.getActiveZones", ActiveZones) ∷
     (codes "root.getDefaultZone", DefaultZone) ∷
+    (codes "root.listServices", Services) ∷
     []

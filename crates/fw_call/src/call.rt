@@ -29,6 +29,7 @@ pub enum Call {
     Zones,
     ActiveZones,
     DefaultZone,
+    Services,
 }
 
 /// A setting as a call's arguments name it.
@@ -38,6 +39,7 @@ pub enum SettingWords {
     SourcePort { port: Text, protocol: Text },
     Protocol { protocol: Text },
     IcmpBlock { name: Text },
+    Service { name: Text },
 }
 
 /// An interface or a source as a call's argument names it.

@@ -42,6 +42,10 @@ fn read_arguments(alloc: Global, member: Member, words: &mut Words) -> Result<Ca
             words.end()?;
             Ok(Call::DefaultZone)
         }
+        Member::Services => {
+            words.end()?;
+            Ok(Call::Services)
+        }
     }
 }
 
@@ -99,6 +103,12 @@ fn read_setting(
         SettingKind::IcmpBlock => {
             let name = words.next()?;
             Ok(SettingWords::IcmpBlock {
+                name: Text::of(alloc, name)?,
+            })
+        }
+        SettingKind::Service => {
+            let name = words.next()?;
+            Ok(SettingWords::Service {
                 name: Text::of(alloc, name)?,
             })
         }

@@ -18,6 +18,7 @@ pub enum SettingKind {
     SourcePort,
     Protocol,
     IcmpBlock,
+    Service,
 }
 
 /// What binds packets to a zone.
@@ -46,6 +47,8 @@ pub enum Member {
     ActiveZones,
     /// `getDefaultZone`.
     DefaultZone,
+    /// `listServices`.
+    Services,
 }
 
 /// The member of this name: its interface's name in scripts, a dot, and its own name. There is none for another name.
@@ -65,6 +68,9 @@ pub fn read_member(name: &str) -> Option<Member>
         "zone.addIcmpBlock" => Some(Member::Setting(Verb::Add, SettingKind::IcmpBlock)),
         "zone.removeIcmpBlock" => Some(Member::Setting(Verb::Remove, SettingKind::IcmpBlock)),
         "zone.queryIcmpBlock" => Some(Member::Setting(Verb::Query, SettingKind::IcmpBlock)),
+        "zone.addService" => Some(Member::Setting(Verb::Add, SettingKind::Service)),
+        "zone.removeService" => Some(Member::Setting(Verb::Remove, SettingKind::Service)),
+        "zone.queryService" => Some(Member::Setting(Verb::Query, SettingKind::Service)),
         "zone.addIcmpBlockInversion" => Some(Member::Inversion(Verb::Add)),
         "zone.removeIcmpBlockInversion" => Some(Member::Inversion(Verb::Remove)),
         "zone.queryIcmpBlockInversion" => Some(Member::Inversion(Verb::Query)),
@@ -81,6 +87,7 @@ pub fn read_member(name: &str) -> Option<Member>
         "zone.getZones" => Some(Member::Zones),
         "zone.getActiveZones" => Some(Member::ActiveZones),
         "root.getDefaultZone" => Some(Member::DefaultZone),
+        "root.listServices" => Some(Member::Services),
         _ => None,
     }
 }

@@ -47,6 +47,10 @@ pub enum SignalKind {
     ZoneIcmpBlockAdded,
     /// `IcmpBlockRemoved`: zone, ICMP type.
     ZoneIcmpBlockRemoved,
+    /// `ServiceAdded`: zone, service, timeout.
+    ZoneServiceAdded,
+    /// `ServiceRemoved`: zone, service.
+    ZoneServiceRemoved,
     /// `IcmpBlockInversionAdded`: zone.
     ZoneIcmpBlockInversionAdded,
     /// `IcmpBlockInversionRemoved`: zone.
@@ -94,6 +98,8 @@ impl SignalKind {
             SignalKind::ZoneProtocolRemoved => "zone.ProtocolRemoved",
             SignalKind::ZoneIcmpBlockAdded => "zone.IcmpBlockAdded",
             SignalKind::ZoneIcmpBlockRemoved => "zone.IcmpBlockRemoved",
+            SignalKind::ZoneServiceAdded => "zone.ServiceAdded",
+            SignalKind::ZoneServiceRemoved => "zone.ServiceRemoved",
             SignalKind::ZoneIcmpBlockInversionAdded => "zone.IcmpBlockInversionAdded",
             SignalKind::ZoneIcmpBlockInversionRemoved => "zone.IcmpBlockInversionRemoved",
             SignalKind::ZoneInterfaceAdded => "zone.InterfaceAdded",

@@ -26,6 +26,7 @@ has_decides rules (plain.Port port) = is_in_decides same_port equality.ports por
 has_decides rules (plain.SourcePort port) = is_in_decides same_port equality.ports port rules.source_ports
 has_decides rules (plain.Protocol protocol) = is_in_decides nat_eq equality.numbers protocol rules.protocols
 has_decides rules (plain.IcmpBlock name) = is_in_decides bytes_eq equality.texts name rules.icmp_blocks
+has_decides rules (plain.Service name) = is_in_decides bytes_eq equality.texts name rules.services
 
 pub has_is : (rules : Rules) (setting : PlainSetting) (result : Bool) → (IsTrue result ↔ Has rules (whole setting)) → result ≡ has rules setting
 has_is rules setting true is = sym ((has_decides rules setting).1 (is.0 refl))
@@ -43,6 +44,7 @@ with_is rules (plain.Port port) = refl
 with_is rules (plain.SourcePort port) = refl
 with_is rules (plain.Protocol protocol) = refl
 with_is rules (plain.IcmpBlock name) = refl
+with_is rules (plain.Service name) = refl
 
 -- a setting less
 pub without_is : (old new : Rules) (setting : PlainSetting) → IsWithout old (whole setting) new → new ≡ without_one old setting
@@ -54,6 +56,8 @@ without_is old new (plain.Protocol protocol) (left, gone, is) =
     is ∙ ap (λ items. record old { protocols = items }) (removed_is_without nat_eq equality.numbers protocol old.protocols left gone)
 without_is old new (plain.IcmpBlock name) (left, gone, is) =
     is ∙ ap (λ items. record old { icmp_blocks = items }) (removed_is_without bytes_eq equality.texts name old.icmp_blocks left gone)
+without_is old new (plain.Service name) (left, gone, is) =
+    is ∙ ap (λ items. record old { services = items }) (removed_is_without bytes_eq equality.texts name old.services left gone)
 
 true_from : (b : Bool) → ¬ (b ≡ false) → b ≡ true
 true_from true differs = refl

@@ -102,7 +102,7 @@ zone_of_call config word = do
   Ok (with_value config (value.Text (holder (find (lists entry) config.zones))))
 
 unfoldable pub call_answered : Config → Call → Result (Answered Config) Refusal
-call_answered config (call.Setting verb zone words) = in_zone config zone (λ found. setting_call found verb words)
+call_answered config (call.Setting verb zone words) = in_zone config zone (λ found. setting_call config.services found verb words)
 call_answered config (call.Inversion verb zone) = in_zone config zone (λ found. inversion_call found verb)
 call_answered config (call.Binding verb zone word) = binding_call config verb zone word
 call_answered config (call.ChangeZone zone word) = change_zone_call config zone word
@@ -110,6 +110,7 @@ call_answered config (call.ZoneOf word) = zone_of_call config word
 call_answered config call.Zones = Ok (with_value config (value.Texts (map (λ zone. zone.name) config.zones)))
 call_answered config call.ActiveZones = Ok (with_value config (value.ActiveZones (active_zones config.zones)))
 call_answered config call.DefaultZone = Ok (with_value config (value.Text config.default_zone))
+call_answered config call.Services = Ok (with_value config (value.Texts (map (λ service. service.name) config.services)))
 
 -- a refusal is a reply, and changes nothing
 abbrev pub replied : Config → Result (Answered Config) Refusal → Answered Config

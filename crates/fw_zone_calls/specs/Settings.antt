@@ -13,9 +13,11 @@ use Rattle.fw_model.specs.declared.code.Code.{Code}
 use Rattle.fw_model.specs.declared.code.Code.TheVariants as code
 use Rattle.fw_model.specs.declared.port.Port.{Port}
 use Rattle.fw_model.specs.declared.rules.Rules.{Rules}
+use Rattle.fw_model.specs.declared.service.Service.{Service}
 use Rattle.fw_model.specs.declared.setting.Setting.{Setting}
 use Rattle.fw_model.specs.declared.setting.Setting.TheVariants as setting
 use Rattle.fw_model.specs.declared.zone.Zone.{Zone}
+use Rattle.fw_service.specs.Known.{is_known}
 use Rattle.fw_told.specs.declared.told.Reply.TheVariants as reply
 use Rattle.fw_told.specs.declared.told.Signal.{Signal}
 use Rattle.fw_told.specs.declared.told.SignalKind.{SignalKind}
@@ -46,16 +48,17 @@ abbrev pub protocol_from : (protocol : List ℕ) → Option ℕ → Result Plain
 protocol_from protocol None = refused code.InvalidProtocol protocol
 protocol_from protocol (Some number) = Ok (plain.Protocol number)
 
--- the setting that a call's arguments spell, or the first refusal
-abbrev pub setting_of : SettingWords → Result PlainSetting Refusal
-setting_of (words.Port port protocol) = do
+-- the setting that a call's arguments spell, or the first refusal; a service is one of the configuration's
+abbrev pub setting_of : List Service → SettingWords → Result PlainSetting Refusal
+setting_of services (words.Port port protocol) = do
   port ← port_of port protocol
   Ok (plain.Port port)
-setting_of (words.SourcePort port protocol) = do
+setting_of services (words.SourcePort port protocol) = do
   port ← port_of port protocol
   Ok (plain.SourcePort port)
-setting_of (words.Protocol protocol) = protocol_from protocol (proto protocol)
-setting_of (words.IcmpBlock name) = if is_some (icmp name) then Ok (plain.IcmpBlock name) else refused code.InvalidIcmptype name
+setting_of services (words.Protocol protocol) = protocol_from protocol (proto protocol)
+setting_of services (words.IcmpBlock name) = if is_some (icmp name) then Ok (plain.IcmpBlock name) else refused code.InvalidIcmptype name
+setting_of services (words.Service name) = if is_known services name then Ok (plain.Service name) else refused code.InvalidService name
 
 -- the setting of a record of settings that is meant
 abbrev pub whole : PlainSetting → Setting
@@ -63,6 +66,7 @@ whole (plain.Port port) = setting.Port port
 whole (plain.SourcePort port) = setting.SourcePort port
 whole (plain.Protocol protocol) = setting.Protocol protocol
 whole (plain.IcmpBlock name) = setting.IcmpBlock name
+whole (plain.Service name) = setting.Service name
 
 -- whether a zone has a setting
 abbrev pub has : Rules → PlainSetting → Bool
@@ -70,6 +74,7 @@ has rules (plain.Port port) = is_in same_port port rules.ports
 has rules (plain.SourcePort port) = is_in same_port port rules.source_ports
 has rules (plain.Protocol protocol) = is_in nat_eq protocol rules.protocols
 has rules (plain.IcmpBlock name) = is_in bytes_eq name rules.icmp_blocks
+has rules (plain.Service name) = is_in bytes_eq name rules.services
 
 -- the settings with one more, the last of its list
 abbrev pub with_one : Rules → PlainSetting → Rules
@@ -77,6 +82,7 @@ with_one rules (plain.Port port) = record rules { ports = rules.ports ++ port �
 with_one rules (plain.SourcePort port) = record rules { source_ports = rules.source_ports ++ port ∷ [] }
 with_one rules (plain.Protocol protocol) = record rules { protocols = rules.protocols ++ protocol ∷ [] }
 with_one rules (plain.IcmpBlock name) = record rules { icmp_blocks = rules.icmp_blocks ++ name ∷ [] }
+with_one rules (plain.Service name) = record rules { services = rules.services ++ name ∷ [] }
 
 -- the settings without one
 abbrev pub without_one : Rules → PlainSetting → Rules
@@ -84,6 +90,7 @@ without_one rules (plain.Port port) = record rules { ports = without same_port p
 without_one rules (plain.SourcePort port) = record rules { source_ports = without same_port port rules.source_ports }
 without_one rules (plain.Protocol protocol) = record rules { protocols = without nat_eq protocol rules.protocols }
 without_one rules (plain.IcmpBlock name) = record rules { icmp_blocks = without bytes_eq name rules.icmp_blocks }
+without_one rules (plain.Service name) = record rules { services = without bytes_eq name rules.services }
 
 abbrev pub added : Rules → PlainSetting → Result Rules Code
 added rules setting = if has rules setting then Err code.AlreadyEnabled else Ok (with_one rules setting)
@@ -101,6 +108,7 @@ setting_text (plain.Port port) = port_text port
 setting_text (plain.SourcePort port) = port_text port
 setting_text (plain.Protocol protocol) = proto_text protocol
 setting_text (plain.IcmpBlock name) = name
+setting_text (plain.Service name) = name
 
 -- a setting as the arguments of a signal
 abbrev pub arguments : PlainSetting → List Value
@@ -108,18 +116,21 @@ arguments (plain.Port port) = value.Text (ports_text port.range) ∷ value.Text 
 arguments (plain.SourcePort port) = value.Text (ports_text port.range) ∷ value.Text (port_proto_text port.proto) ∷ []
 arguments (plain.Protocol protocol) = value.Text (proto_text protocol) ∷ []
 arguments (plain.IcmpBlock name) = value.Text name ∷ []
+arguments (plain.Service name) = value.Text name ∷ []
 
 abbrev pub added_kind : PlainSetting → SignalKind
 added_kind (plain.Port port) = signal.ZonePortAdded
 added_kind (plain.SourcePort port) = signal.ZoneSourcePortAdded
 added_kind (plain.Protocol protocol) = signal.ZoneProtocolAdded
 added_kind (plain.IcmpBlock name) = signal.ZoneIcmpBlockAdded
+added_kind (plain.Service name) = signal.ZoneServiceAdded
 
 abbrev pub removed_kind : PlainSetting → SignalKind
 removed_kind (plain.Port port) = signal.ZonePortRemoved
 removed_kind (plain.SourcePort port) = signal.ZoneSourcePortRemoved
 removed_kind (plain.Protocol protocol) = signal.ZoneProtocolRemoved
 removed_kind (plain.IcmpBlock name) = signal.ZoneIcmpBlockRemoved
+removed_kind (plain.Service name) = signal.ZoneServiceRemoved
 
 -- the signals, with the zone's name; one that was added has no timeout
 abbrev pub added_signal : (zone : List ℕ) → PlainSetting → Signal
@@ -151,7 +162,7 @@ setting_answered zone verb.Query setting =
     Ok (record { signals = []; reply = reply.Ok (value.Bool (has zone.rules setting) ∷ []); after = zone })
 
 -- the same by its arguments
-abbrev pub setting_call : Zone → Verb → SettingWords → Result (Answered Zone) Refusal
-setting_call zone verb words = do
-  setting ← setting_of words
+abbrev pub setting_call : List Service → Zone → Verb → SettingWords → Result (Answered Zone) Refusal
+setting_call services zone verb words = do
+  setting ← setting_of services words
   setting_answered zone verb setting

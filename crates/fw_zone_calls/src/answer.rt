@@ -10,7 +10,7 @@ use super::binding::{binding_call, change_zone_call, zone_of_call};
 use super::inversion::inversion_call;
 use super::refusal::{Refusal, Stop};
 use super::settings::setting_call;
-use super::texts::zone_names;
+use super::texts::{service_names, zone_names};
 use super::zones::find_zone;
 use fw_base::{Memory, Seq, Text};
 use fw_call::{Call, SettingWords, Verb};
@@ -75,6 +75,10 @@ fn answer_or_refusal(alloc: Global, config: &mut Config, call: &Call) -> Result<
             let name = Text::of(alloc, config.default_zone.as_str())?;
             Ok(value_answer(alloc, Value::Text(name))?)
         }
+        Call::Services => {
+            let names = service_names(alloc, config.services.as_slice())?;
+            Ok(value_answer(alloc, Value::Texts(names))?)
+        }
     }
 }
 
@@ -85,11 +89,12 @@ fn setting_in(
     zone: &str,
     words: &SettingWords,
 ) -> Result<Answer, Stop>
-    ensures { Answers config.old config.new result (in_zone config.old zone.now (λ zone. setting_call zone verb words.now)) }
+    ensures { Answers config.old config.new result (in_zone config.old zone.now (λ zone. setting_call config.old.services zone verb words.now)) }
 {
     let found = find_zone(alloc, config, zone)?;
     let place = found.place;
-    setting_call(alloc, config.zones.get_mut(place), verb, words)
+    let services = config.services.as_slice();
+    setting_call(alloc, services, config.zones.get_mut(place), verb, words)
 }
 
 fn inversion_in(alloc: Global, config: &mut Config, verb: Verb, zone: &str) -> Result<Answer, Stop>

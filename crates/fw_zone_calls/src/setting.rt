@@ -8,7 +8,8 @@ use super::refusal::{Stop, refuse};
 use fw_addr::{Proto, icmp_numbers, read_port_proto, read_ports, read_proto};
 use fw_base::{Memory, Seq, Text};
 use fw_call::SettingWords;
-use fw_model::{Code, Port};
+use fw_model::{Code, Port, Service};
+use fw_service::knows;
 use fw_told::{SignalKind, Value};
 use std::alloc::Global;
 
@@ -19,11 +20,16 @@ pub enum PlainSetting {
     SourcePort(Port),
     Protocol(Proto),
     IcmpBlock(Text),
+    Service(Text),
 }
 
-/// The setting that a call's arguments spell.
-pub fn read_setting(alloc: Global, words: &SettingWords) -> Result<PlainSetting, Stop>
-    ensures { Reads result (setting_of words.now) }
+/// The setting that a call's arguments spell; a service is one of the configuration's.
+pub fn read_setting(
+    alloc: Global,
+    services: &[Service],
+    words: &SettingWords,
+) -> Result<PlainSetting, Stop>
+    ensures { Reads result (setting_of services.now words.now) }
 {
     match words {
         SettingWords::Port { port, protocol } => {
@@ -40,6 +46,13 @@ pub fn read_setting(alloc: Global, words: &SettingWords) -> Result<PlainSetting,
                 Ok(PlainSetting::IcmpBlock(Text::of(alloc, name.as_str())?))
             } else {
                 Err(Stop::Refused(refuse(alloc, Code::InvalidIcmptype, name.as_str())?))
+            }
+        }
+        SettingWords::Service { name } => {
+            if knows(services, name.as_str()) {
+                Ok(PlainSetting::Service(Text::of(alloc, name.as_str())?))
+            } else {
+                Err(Stop::Refused(refuse(alloc, Code::InvalidService, name.as_str())?))
             }
         }
     }
@@ -77,7 +90,9 @@ impl PlainSetting {
             PlainSetting::Protocol(protocol) => {
                 Ok(Text::from_string(format!(in alloc; "{protocol}")?))
             }
-            PlainSetting::IcmpBlock(name) => Text::of(alloc, name.as_str()),
+            PlainSetting::IcmpBlock(name) | PlainSetting::Service(name) => {
+                Text::of(alloc, name.as_str())
+            }
         }
     }
 
@@ -88,7 +103,7 @@ impl PlainSetting {
         match self {
             PlainSetting::Port(port) => push_port(alloc, values, port),
             PlainSetting::SourcePort(port) => push_port(alloc, values, port),
-            PlainSetting::Protocol(_) | PlainSetting::IcmpBlock(_) => {
+            PlainSetting::Protocol(_) | PlainSetting::IcmpBlock(_) | PlainSetting::Service(_) => {
                 values.push(Value::Text(self.text(alloc)?))
             }
         }
@@ -103,6 +118,7 @@ impl PlainSetting {
             PlainSetting::SourcePort(_) => SignalKind::ZoneSourcePortAdded,
             PlainSetting::Protocol(_) => SignalKind::ZoneProtocolAdded,
             PlainSetting::IcmpBlock(_) => SignalKind::ZoneIcmpBlockAdded,
+            PlainSetting::Service(_) => SignalKind::ZoneServiceAdded,
         }
     }
 
@@ -115,6 +131,7 @@ impl PlainSetting {
             PlainSetting::SourcePort(_) => SignalKind::ZoneSourcePortRemoved,
             PlainSetting::Protocol(_) => SignalKind::ZoneProtocolRemoved,
             PlainSetting::IcmpBlock(_) => SignalKind::ZoneIcmpBlockRemoved,
+            PlainSetting::Service(_) => SignalKind::ZoneServiceRemoved,
         }
     }
 }

@@ -10,21 +10,22 @@ use super::refusal::{Stop, refuse};
 use super::setting::{PlainSetting, read_setting};
 use fw_base::{Memory, Text};
 use fw_call::{SettingWords, Verb};
-use fw_model::{Code, Rules, Setting, Zone};
+use fw_model::{Code, Rules, Service, Setting, Zone};
 use fw_told::{Signal, Value};
 use fw_zone::{AddError, NotEnabled, add, has, remove};
 use std::alloc::Global;
 
-/// A call on a setting of a zone.
+/// A call on a setting of a zone; a service is one of the configuration's.
 pub fn setting_call(
     alloc: Global,
+    services: &[Service],
     zone: &mut Zone,
     verb: Verb,
     words: &SettingWords,
 ) -> Result<Answer, Stop>
-    ensures { Answers zone.old zone.new result (setting_call zone.old verb words.now) }
+    ensures { Answers zone.old zone.new result (setting_call services.now zone.old verb words.now) }
 {
-    let setting = read_setting(alloc, words)?;
+    let setting = read_setting(alloc, services, words)?;
     match verb {
         Verb::Add => add_setting(alloc, zone, setting),
         Verb::Remove => remove_setting(alloc, zone, setting),
@@ -99,6 +100,7 @@ fn whole(setting: PlainSetting) -> Setting
         PlainSetting::SourcePort(port) => Setting::SourcePort(port),
         PlainSetting::Protocol(protocol) => Setting::Protocol(protocol),
         PlainSetting::IcmpBlock(name) => Setting::IcmpBlock(name),
+        PlainSetting::Service(name) => Setting::Service(name),
     }
 }
 

@@ -5,7 +5,7 @@ ghost use Rattle.fw_zone_calls.specs.Entries.{source_text};
 use super::entry::source_text;
 use fw_addr::Iface;
 use fw_base::{Memory, Seq, Text};
-use fw_model::{Binding, Zone};
+use fw_model::{Binding, Service, Zone};
 use std::alloc::Global;
 
 /// The names of zones.
@@ -15,6 +15,17 @@ pub fn zone_names(alloc: Global, zones: &[Zone]) -> Result<Seq<Text>, Memory>
     let mut names = Seq::new(alloc);
     for zone in zones {
         names.push(Text::of(alloc, zone.name.as_str())?)?;
+    }
+    Ok(names)
+}
+
+/// The names of services.
+pub fn service_names(alloc: Global, services: &[Service]) -> Result<Seq<Text>, Memory>
+    ensures { IfOk result (λ names. names ≡ map (λ service. service.name) services.now) }
+{
+    let mut names = Seq::new(alloc);
+    for service in services {
+        names.push(Text::of(alloc, service.name.as_str())?)?;
     }
     Ok(names)
 }

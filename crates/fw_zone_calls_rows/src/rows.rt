@@ -141,6 +141,43 @@ const SETTINGS: [(&str, &str); 31] = [
     ),
 ];
 
+const SERVICES: [(&str, &str); 13] = [
+    (
+        "root.listServices",
+        "ok [\"dhcp\" \"dhcpv6-client\" \"dns\" \"http\" \"https\" \"ipp-client\" \"mdns\" \"ntp\" \"samba-client\" \"smtp\" \"ssh\" \"web-site\"]",
+    ),
+    ("zone.queryService public ssh", "ok true"),
+    ("zone.queryService public web-site", "ok false"),
+    (
+        "zone.addService \"\" web-site 0",
+        "zone.ServiceAdded \"public\" \"web-site\" 0 | ok \"public\"",
+    ),
+    (
+        "zone.addService public web-site 0",
+        "\"ALREADY_ENABLED: web-site\"",
+    ),
+    ("zone.queryService public web-site", "ok true"),
+    (
+        "zone.addService public nosuch 0",
+        "\"INVALID_SERVICE: nosuch\"",
+    ),
+    (
+        "zone.addService nowhere nosuch 0",
+        "\"INVALID_ZONE: nowhere\"",
+    ),
+    (
+        "zone.removeService public nosuch",
+        "\"INVALID_SERVICE: nosuch\"",
+    ),
+    ("zone.queryService public SSH", "\"INVALID_SERVICE: SSH\""),
+    (
+        "zone.removeService public ssh",
+        "zone.ServiceRemoved \"public\" \"ssh\" | ok \"public\"",
+    ),
+    ("zone.removeService public ssh", "\"NOT_ENABLED: ssh\""),
+    ("zone.queryService work ssh", "ok true"),
+];
+
 const BINDINGS: [(&str, &str); 33] = [
     (
         "zone.getZones",
@@ -245,6 +282,18 @@ fn settings_are_edited(rt: HostRuntime) -> Result<(), Fail> {
     let alloc = rt.alloc();
     let mut config = config_with_set(alloc)?;
     for (call, want) in SETTINGS {
+        let text = told(alloc, &mut config, call)?;
+        let told = shortened(alloc, text.as_str())?;
+        assert_eq!(rt; told.as_str(), want, "{call}");
+    }
+    Ok(())
+}
+
+#[test]
+fn services_are_edited(rt: HostRuntime) -> Result<(), Fail> {
+    let alloc = rt.alloc();
+    let mut config = built_in_config(alloc)?;
+    for (call, want) in SERVICES {
         let text = told(alloc, &mut config, call)?;
         let told = shortened(alloc, text.as_str())?;
         assert_eq!(rt; told.as_str(), want, "{call}");
