@@ -1,0 +1,4 @@
+pub mod Lowered
+pub mod Members
+pub mod Reached
+pub mod Tests

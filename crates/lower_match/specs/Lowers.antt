@@ -1,0 +1,60 @@
+-- What it means that a setting of firewalld is told in matches of nft(8): the setting is about the packets of which the
+-- matches hold. The manuals of firewalld (`hits`) stand on one side, the evaluation of nft(8) (`match_holds`) on the other.
+use Rattle.std.specs.Prelude.{◌≡◌, ℕ, List, ◌++◌, codes, Bool, true, false, ◌||◌, Option}
+use Rattle.std.specs.List.{list_all, list_any}
+use Rattle.fw_addr.specs.declared.addr.Addr.{Addr}
+use Rattle.fw_model.specs.Packets.{IsPacket}
+use Rattle.fw_model.specs.declared.config.Config.{Config}
+use Rattle.fw_model.specs.declared.ipset.IpSet.{IpSet}
+use Rattle.fw_model.specs.declared.packet.Packet.{Packet}
+use Rattle.fw_model.specs.declared.service.Service.{Service}
+use Rattle.fw_model.specs.declared.setting.Setting.{Setting}
+use Rattle.fw_model.specs.declared.setting.Setting.TheVariants as setting
+use Rattle.fw_verdict.specs.Hits.{hits}
+use Rattle.fw_verdict.specs.Sources.{set_holds}
+use Rattle.fw_zone.specs.Lists.{IsIn}
+use Rattle.nf_eval.specs.Sets.{holds_address}
+use Rattle.nf_eval.specs.Tests.{is_from_set, match_holds}
+use Rattle.nf_rules.specs.declared.rule.Match.{Match}
+use Rattle.nf_rules.specs.declared.ruleset.Ruleset.{Ruleset}
+use Rattle.nf_rules.specs.declared.set.NfSet.{NfSet}
+
+-- the name under which an ipset stands in a ruleset
+abbrev pub set_name : List ℕ → List ℕ
+set_name name = codes "ipset_" ++ name
+
+-- Under an ipset's name the sets hold a sender, by its address or by its hardware address, exactly where the ipset holds it.
+abbrev pub StandsFor : List NfSet → IpSet → Type 0
+StandsFor sets ipset =
+    (address : Addr) (mac : Option ℕ)
+    → set_holds ipset address mac ≡ (holds_address sets (set_name ipset.name) address || is_from_set sets (set_name ipset.name) mac)
+
+-- each ipset stands among the sets
+abbrev pub EachStands : List IpSet → List NfSet → Type 0
+EachStands ipsets sets = (ipset : IpSet) → IsIn ipset ipsets → StandsFor sets ipset
+
+-- all matches of one alternative hold
+abbrev pub one_holds : List NfSet → Packet → List (List Match) → Bool
+one_holds sets packet alternatives = list_any (list_all (match_holds sets packet)) alternatives
+
+-- A setting, with these services and ipsets, is told in alternatives: for every packet, the setting is about it exactly where all
+-- matches of one alternative hold, in every ruleset in which each ipset stands as the set of its name.
+abbrev pub Lowers : List Service → List IpSet → Setting → List (List Match) → Type 0
+Lowers services ipsets told alternatives =
+    (config : Config) (rules : Ruleset) (packet : Packet)
+    → config.services ≡ services
+    → config.ipsets ≡ ipsets
+    → EachStands ipsets rules.sets
+    → IsPacket packet
+    → hits config told packet ≡ one_holds rules.sets packet alternatives
+
+-- any setting but a rich rule
+abbrev pub is_plain : Setting → Bool
+is_plain (setting.Service name) = true
+is_plain (setting.Port port) = true
+is_plain (setting.Protocol protocol) = true
+is_plain (setting.SourcePort port) = true
+is_plain (setting.IcmpBlock name) = true
+is_plain setting.Masquerade = true
+is_plain (setting.Forward forward) = true
+is_plain (setting.Rich rule) = false

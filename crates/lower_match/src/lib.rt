@@ -1,0 +1,9 @@
+//! Settings of firewalld told in matches of nft(8): the matches hold of exactly the packets that the setting is about.
+#![tactic(auto)]
+
+mod alternatives;
+mod icmp;
+mod service;
+mod setting;
+
+pub use setting::matches_of;
