@@ -38,5 +38,7 @@ pub use names::is_well_formed_name;
 pub use net::{Net, print_net, read_net};
 pub use packet::{CtState, Family, PktType};
 pub use ports::{PortRange, print_ports, read_ports};
-pub use proto::{PortProto, Proto, print_proto, read_port_proto, read_proto};
+pub use proto::{
+    DCCP, ICMP, ICMPV6, PortProto, Proto, SCTP, TCP, UDP, print_proto, read_port_proto, read_proto,
+};
 pub use reject::RejectType;

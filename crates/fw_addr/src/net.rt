@@ -2,7 +2,7 @@
 ghost use Rattle.std.specs.Prelude.{◌≡◌, ℕ, ◌-◌, ◌%◌, ◌^◌, ◌==◌, ◌≤◌, ◌↔◌, IsTrue, IfOk, IfSome, None, Some};
 ghost use Rattle.std.specs.Option.{ok_or};
 ghost use Rattle.fw_addr.specs.Nets.{net, net_text, mask_length, prefix_length};
-ghost use Rattle.fw_addr.specs.Subnets.{SharesBits, SharesPrefix, cleared, in_net, leading, subnet, width};
+ghost use Rattle.fw_addr.specs.Subnets.{SharesBits, SharesPrefix, cleared, in_net, is_subnet, leading, subnet, width};
 
 use super::addr::{bits_fit, parse_addr};
 use super::ipv4::read_ipv4;
@@ -60,10 +60,11 @@ impl Net {
         self.addr
     }
 
-    /// How many bits all addresses of the net share: at most 32, or for IPv6 128.
+    /// How many bits all addresses of the net share: at most 32, or for IPv6 128. The bits behind them are 0.
     pub fn prefix(&self) -> u8
         ensures value { result ≡ self.now.prefix }
         ensures fits { result ≤ width self.now.address }
+        ensures cleared { IsTrue (is_subnet self.now) }
     {
         self.prefix
     }

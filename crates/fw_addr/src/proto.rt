@@ -12,6 +12,24 @@ use std::alloc::Global;
 use std::fmt;
 use std::marker::Model;
 
+/// The number of ICMP in an IP header, as IANA registers it.
+pub const ICMP: u8 = 1;
+
+/// The number of TCP in an IP header.
+pub const TCP: u8 = 6;
+
+/// The number of UDP in an IP header.
+pub const UDP: u8 = 17;
+
+/// The number of DCCP in an IP header.
+pub const DCCP: u8 = 33;
+
+/// The number of ICMPv6 in an IP header.
+pub const ICMPV6: u8 = 58;
+
+/// The number of SCTP in an IP header.
+pub const SCTP: u8 = 132;
+
 /// A transport protocol that has ports.
 #[derive(Clone, Copy, Debug, PartialEq, Eq)]
 pub enum PortProto {
@@ -39,10 +57,10 @@ impl PortProto {
         ensures { result ≡ proto_number self }
     {
         Proto(match self {
-            PortProto::Tcp => 6,
-            PortProto::Udp => 17,
-            PortProto::Sctp => 132,
-            PortProto::Dccp => 33,
+            PortProto::Tcp => TCP,
+            PortProto::Udp => UDP,
+            PortProto::Sctp => SCTP,
+            PortProto::Dccp => DCCP,
         })
     }
 }
@@ -116,16 +134,16 @@ fn number_named(text: &str) -> Option<u8>
     ensures { result ≡ named proto_names text.now }
 {
     match text {
-        "icmp" => Some(1),
+        "icmp" => Some(ICMP),
         "igmp" => Some(2),
-        "tcp" => Some(6),
-        "udp" => Some(17),
-        "dccp" => Some(33),
+        "tcp" => Some(TCP),
+        "udp" => Some(UDP),
+        "dccp" => Some(DCCP),
         "gre" => Some(47),
         "esp" => Some(50),
         "ah" => Some(51),
-        "ipv6-icmp" => Some(58),
-        "sctp" => Some(132),
+        "ipv6-icmp" => Some(ICMPV6),
+        "sctp" => Some(SCTP),
         _ => None,
     }
 }
@@ -145,16 +163,16 @@ fn name_of(number: u8) -> Option<&'static str>
     ensures { option_copied result ≡ name_of proto_names number }
 {
     match number {
-        1 => Some("icmp"),
+        ICMP => Some("icmp"),
         2 => Some("igmp"),
-        6 => Some("tcp"),
-        17 => Some("udp"),
-        33 => Some("dccp"),
+        TCP => Some("tcp"),
+        UDP => Some("udp"),
+        DCCP => Some("dccp"),
         47 => Some("gre"),
         50 => Some("esp"),
         51 => Some("ah"),
-        58 => Some("ipv6-icmp"),
-        132 => Some("sctp"),
+        ICMPV6 => Some("ipv6-icmp"),
+        SCTP => Some("sctp"),
         _ => None,
     }
 }

@@ -1,7 +1,8 @@
 -- Packets: where they come from, and which there are.
-use Rattle.std.specs.Prelude.{◌≡◌, ℕ, ◌<◌, ◌^◌, ◌==◌, Bool, true, false, ◌||◌, is_none, IsTrue, List, All, IfSome}
+use Rattle.std.specs.Prelude.{◌≡◌, ℕ, ◌<◌, ◌^◌, Bool, true, false, is_none, IsTrue, List, All, IfSome}
 use Rattle.std.specs.Str.{bytes_eq}
 use Rattle.fw_addr.specs.Interfaces.{before_plus}
+use Rattle.fw_addr.specs.Protocols.{has_ports, icmp_protocol, icmpv6_protocol}
 use Rattle.fw_addr.specs.Subnets.{Subnet, family, is_subnet}
 use Rattle.fw_addr.specs.declared.addr.Addr.{Addr}
 use Rattle.fw_addr.specs.declared.addr.Addr.TheVariants.{V4, V6}
@@ -21,13 +22,13 @@ pub record IsNet (net : Subnet) : Type 0 where
   pub cleared : IsTrue (is_subnet net)
 
 -- The packets that there are: their numbers fit the fields of a header (RFC 791, RFC 8200, RFC 9293), they go between
--- addresses of one family, and ICMP (protocol 1, RFC 792) is of IPv4 alone, ICMPv6 (protocol 58, RFC 4443) of IPv6 alone.
+-- addresses of one family, and ICMP (RFC 792) is of IPv4 alone, ICMPv6 (RFC 4443) of IPv6 alone.
 pub record IsPacket (packet : Packet) : Type 0 where
   pub src : IsAddress packet.src
   pub dst : IsAddress packet.dst
   pub one_family : family packet.src ≡ family packet.dst
-  pub icmp : packet.proto ≡ 1 → family packet.src ≡ families.V4
-  pub icmpv6 : packet.proto ≡ 58 → family packet.src ≡ families.V6
+  pub icmp : packet.proto ≡ icmp_protocol → family packet.src ≡ families.V4
+  pub icmpv6 : packet.proto ≡ icmpv6_protocol → family packet.src ≡ families.V6
   pub mac : IfSome packet.mac (λ mac. mac < 2 ^ 48)
   pub proto : packet.proto < 2 ^ 8
   pub sport : packet.sport < 2 ^ 16
@@ -52,10 +53,6 @@ has_plain_link (Link link) = is_none (before_plus link)
 abbrev pub is_v4 : Addr → Bool
 is_v4 (V4 number) = true
 is_v4 (V6 number) = false
-
--- Whether a protocol has ports: TCP, UDP, DCCP and SCTP by their numbers in IANA's registry.
-abbrev pub has_ports : ℕ → Bool
-has_ports protocol = protocol == 6 || protocol == 17 || protocol == 33 || protocol == 132
 
 -- The packets that are asked about: they came by an interface, whose name has no `+`, go from one IPv4 address to
 -- another, and have ports.

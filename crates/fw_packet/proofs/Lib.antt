@@ -1,4 +1,3 @@
 pub mod Collecting
 pub mod Ends
-pub mod NetRange
 pub mod Texts

@@ -6,7 +6,7 @@ use Rattle.fw_text.specs.Number.{number_to}
 use Rattle.fw_text.specs.Steps.{◌>>=◌}
 use Rattle.fw_addr.specs.Addresses.{address}
 use Rattle.fw_addr.specs.Hardware.{mac}
-use Rattle.fw_addr.specs.Protocols.{proto}
+use Rattle.fw_addr.specs.Protocols.{icmp_protocol, icmpv6_protocol, proto}
 use Rattle.fw_addr.specs.declared.addr.Addr.{Addr}
 use Rattle.fw_addr.specs.declared.addr.Addr.TheVariants.{V4, V6}
 use Rattle.fw_addr.specs.declared.packet.CtState.TheVariants.{New}
@@ -21,8 +21,8 @@ use Rattle.fw_packet.specs.PacketWords.{given, is_known, optional, packet_types,
 -- The family of two addresses and a protocol, where they have one: the addresses are of one family, and ICMP (1) is of IPv4
 -- alone, ICMPv6 (58) of IPv6 alone (RFC 792, RFC 4443).
 abbrev pub common_family : Addr → Addr → (protocol : ℕ) → Option Family
-common_family (V4 m) (V4 n) protocol = if protocol == 58 then None else Some families.V4
-common_family (V6 m) (V6 n) protocol = if protocol == 1 then None else Some families.V6
+common_family (V4 m) (V4 n) protocol = if protocol == icmpv6_protocol then None else Some families.V4
+common_family (V6 m) (V6 n) protocol = if protocol == icmp_protocol then None else Some families.V6
 common_family (V4 m) (V6 n) protocol = None
 common_family (V6 m) (V4 n) protocol = None
 

@@ -1,5 +1,6 @@
 //! Reading the words of a packet.
 ghost use Rattle.std.specs.Prelude.{◌≡◌, IsTrue, IfOk};
+ghost use Rattle.fw_addr.specs.Protocols.{icmp_protocol, icmpv6_protocol};
 ghost use Rattle.fw_addr.specs.Subnets.{family};
 ghost use Rattle.fw_model.specs.Packets.{IsPacket, has_plain_link};
 ghost use Rattle.fw_words.specs.Keys.{texts};
@@ -8,7 +9,7 @@ ghost use Rattle.fw_packet.specs.Packets.{common_family, described, packet_of};
 
 use super::keys::are_known;
 use super::value::{optional, repeated, required};
-use fw_addr::{Addr, CtState, Family, Limit, Mac, Net, PktType, Proto};
+use fw_addr::{Addr, CtState, Family, ICMP, ICMPV6, Limit, Mac, Net, PktType, Proto};
 use fw_base::Seq;
 use fw_model::{Origin, Packet, Via};
 use fw_words::LineError;
@@ -78,12 +79,12 @@ fn read_described(alloc: Global, words: &[&str]) -> Result<Packet, LineError>
 fn common_family(src: &Addr, dst: &Addr, protocol: u8) -> Result<Family, LineError>
     ensures says { Says result (common_family src.now dst.now protocol) }
     ensures one_family { IfOk result (λ _. family src.now ≡ family dst.now) }
-    ensures icmp { IfOk result (λ _. protocol ≡ 1 → family src.now ≡ Family.V4) }
-    ensures icmpv6 { IfOk result (λ _. protocol ≡ 58 → family src.now ≡ Family.V6) }
+    ensures icmp { IfOk result (λ _. protocol ≡ icmp_protocol → family src.now ≡ Family.V4) }
+    ensures icmpv6 { IfOk result (λ _. protocol ≡ icmpv6_protocol → family src.now ≡ Family.V6) }
 {
     match (src, dst) {
-        (Addr::V4(_), Addr::V4(_)) if protocol != 58 => Ok(Family::V4),
-        (Addr::V6(_), Addr::V6(_)) if protocol != 1 => Ok(Family::V6),
+        (Addr::V4(_), Addr::V4(_)) if protocol != ICMPV6 => Ok(Family::V4),
+        (Addr::V6(_), Addr::V6(_)) if protocol != ICMP => Ok(Family::V6),
         _ => Err(LineError::BadLine),
     }
 }

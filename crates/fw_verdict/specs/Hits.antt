@@ -1,6 +1,7 @@
 -- Which packets a setting of a zone or a policy is about (firewalld.zone(5), firewalld.policy(5)).
 use Rattle.std.specs.Prelude.{ℕ, ◌==◌, List, Bool, false, not, ◌&&◌, ◌||◌, Option, None, Some}
 use Rattle.fw_addr.specs.Icmp.{icmp}
+use Rattle.fw_addr.specs.Protocols.{icmp_protocol, icmpv6_protocol}
 use Rattle.fw_addr.specs.declared.icmp.IcmpNumbers.{IcmpNumbers}
 use Rattle.fw_model.specs.Packets.{is_v4}
 use Rattle.fw_model.specs.Ports.{port_matches}
@@ -15,12 +16,12 @@ use Rattle.fw_verdict.specs.Services.{service_hits, source_port_matches}
 abbrev pub is_ipv4 : Packet → Bool
 is_ipv4 packet = is_v4 packet.src
 
--- ICMP in IPv4 (protocol 1, RFC 792), and ICMPv6 in IPv6 (protocol 58, RFC 4443)
+-- ICMP in IPv4 (RFC 792), and ICMPv6 in IPv6 (RFC 4443)
 abbrev pub is_icmpv4 : Packet → Bool
-is_icmpv4 packet = packet.proto == 1 && is_ipv4 packet
+is_icmpv4 packet = packet.proto == icmp_protocol && is_ipv4 packet
 
 abbrev pub is_icmpv6 : Packet → Bool
-is_icmpv6 packet = packet.proto == 58 && not (is_ipv4 packet)
+is_icmpv6 packet = packet.proto == icmpv6_protocol && not (is_ipv4 packet)
 
 abbrev pub is_icmp : Packet → Bool
 is_icmp packet = is_icmpv4 packet || is_icmpv6 packet

@@ -6,13 +6,8 @@ ghost use Rattle.fw_verdict.specs.Hits.{hits_icmp, is_icmp, is_icmpv4, is_icmpv6
 ghost use Rattle.fw_verdict.specs.Services.{source_port_matches};
 
 use crate::sources::is_v4;
-use fw_addr::{Proto, icmp_numbers};
+use fw_addr::{ICMP, ICMPV6, Proto, icmp_numbers};
 use fw_model::{Packet, Port};
-
-/// The numbers of ICMP and ICMPv6 in an IP header.
-const ICMP: u8 = 1;
-
-const ICMPV6: u8 = 58;
 
 fn is_icmpv4(packet: &Packet) -> bool
     ensures { result ≡ is_icmpv4 packet.now }

@@ -2,6 +2,8 @@
 use Rattle.std.specs.Prelude.{List, [], ◌∷◌, Bool, true, false, ◌==◌, ◌&&◌, Option, None, Some, if◌then◌else◌}
 use Rattle.std.specs.List.{list_all}
 use Rattle.std.specs.Option.{option_or}
+use Rattle.fw_addr.specs.Protocols.{proto_number}
+use Rattle.fw_addr.specs.declared.proto.PortProto.TheVariants.{Tcp}
 use Rattle.fw_addr.specs.declared.reject.RejectType.{RejectType}
 use Rattle.fw_addr.specs.declared.reject.RejectType.TheVariants.{TcpReset}
 use Rattle.fw_model.specs.declared.outcome.Verdict.{Verdict}
@@ -13,9 +15,9 @@ use Rattle.nf_rules.specs.declared.set.NfSet.{NfSet}
 use Rattle.nf_rules.specs.declared.statement.Stmt.{Stmt}
 use Rattle.nf_rules.specs.declared.statement.Stmt.TheVariants as stmt
 
--- A reject with a reset answers TCP, protocol 6, alone (REJECT STATEMENT).
+-- A reject with a reset answers TCP alone (REJECT STATEMENT).
 abbrev pub can_reject : RejectType → Packet → Bool
-can_reject TcpReset packet = packet.proto == 6
+can_reject TcpReset packet = packet.proto == proto_number Tcp
 can_reject kind packet = true
 
 -- What a statement decides. None: evaluation goes on behind it (VERDICT STATEMENTS). The rulesets that are evaluated

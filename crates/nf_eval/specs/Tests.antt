@@ -3,7 +3,7 @@ use Rattle.std.specs.Prelude.{ℕ, List, Bool, true, false, not, ◌==◌, ◌&&
 use Rattle.std.specs.List.{list_any}
 use Rattle.fw_addr.specs.Interfaces.{matches}
 use Rattle.fw_addr.specs.Ports.{in_range}
-use Rattle.fw_addr.specs.Protocols.{proto_number}
+use Rattle.fw_addr.specs.Protocols.{icmp_protocol, icmpv6_protocol, proto_number}
 use Rattle.fw_addr.specs.Subnets.{family, in_net}
 use Rattle.fw_addr.specs.declared.limit.Limit.{Limit}
 use Rattle.fw_addr.specs.declared.packet.CtState.{CtState}
@@ -68,8 +68,8 @@ is_from_set sets name (Some mac) = holds_mac sets name mac
 
 -- the number of the family's ICMP (RFC 792, RFC 4443)
 abbrev pub icmp_number : Family → ℕ
-icmp_number families.V4 = 1
-icmp_number families.V6 = 58
+icmp_number families.V4 = icmp_protocol
+icmp_number families.V6 = icmpv6_protocol
 
 -- What a test asks of a packet, with these sets.
 abbrev pub test_holds : List NfSet → Packet → Test → Bool

@@ -5,12 +5,9 @@ ghost use Rattle.nf_eval.specs.Decisions.{can_reject, decision, first_decision, 
 ghost use Rattle.nf_eval.specs.Tests.{match_holds};
 
 use crate::test::match_holds;
-use fw_addr::RejectType;
+use fw_addr::{RejectType, TCP};
 use fw_model::{Packet, Verdict};
 use nf_rules::{Match, NfSet, Rule, Stmt};
-
-/// The number of TCP in an IP header.
-const TCP: u8 = 6;
 
 fn can_reject(kind: RejectType, packet: &Packet) -> bool
     ensures { result ≡ can_reject kind packet.now }

@@ -5,7 +5,7 @@ ghost use Rattle.fw_addr.specs.Subnets.{family};
 ghost use Rattle.nf_eval.specs.Tests.{came_in_by, icmp_number, is_from, is_from_set, is_same_family, is_same_limit, is_same_state, is_same_type, match_holds, test_holds};
 
 use crate::sets::{holds_address, holds_mac, holds_port};
-use fw_addr::{Addr, CtState, Family, Iface, Limit, Mac, PktType};
+use fw_addr::{Addr, CtState, Family, ICMP, ICMPV6, Iface, Limit, Mac, PktType};
 use fw_model::{Origin, Packet};
 use nf_rules::{Match, NfSet, Test};
 
@@ -62,8 +62,8 @@ fn icmp_number(family: Family) -> u8
     ensures { result ≡ icmp_number family }
 {
     match family {
-        Family::V4 => 1,
-        Family::V6 => 58,
+        Family::V4 => ICMP,
+        Family::V6 => ICMPV6,
     }
 }
 
