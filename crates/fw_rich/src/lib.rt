@@ -3,5 +3,7 @@
 #![tactic(auto)]
 
 mod bytes;
+mod grammar;
+mod parts;
 mod token;
 mod tokens;

@@ -1,7 +1,7 @@
 //! The tokens of a text, taken one after another.
-ghost use Rattle.std.specs.Prelude.{◌≡◌, ◌≤◌, length};
+ghost use Rattle.std.specs.Prelude.{◌≡◌, ◌≤◌, ◌↔◌, IsTrue, [], length};
 ghost use Rattle.std.specs.Option.{option_copied};
-ghost use Rattle.fw_rich.specs.Reading.{pop, stop, take_pair, take_word, word_key};
+ghost use Rattle.fw_rich.specs.Reading.{offset, pop, stop, take_pair, take_word, word_key};
 ghost use Rattle.fw_rich.specs.Tokens.{tokens, tokens_from};
 
 use super::bytes::behind_gap;
@@ -73,6 +73,23 @@ impl<'a> Tokens<'a> {
             Some(token) => Stop::At(token.offset),
             None => Stop::End,
         }
+    }
+
+    /// Where the next token begins, or 0 where none is left.
+    pub fn offset(&self) -> usize
+        ensures { result ≡ offset self.now }
+    {
+        match &self.next {
+            Some(token) => token.offset,
+            None => 0,
+        }
+    }
+
+    /// Whether no token is left.
+    pub fn is_empty(&self) -> bool
+        ensures { IsTrue result ↔ (self.now ≡ []) }
+    {
+        self.next.is_none()
     }
 
     /// Takes the next token.
