@@ -1,3 +1,5 @@
 pub mod Ascii
 pub mod Boundaries
+pub mod HexLemmas
+pub mod Said
 pub mod TokenSteps

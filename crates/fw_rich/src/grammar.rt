@@ -61,10 +61,7 @@ fn end(left: &mut Tokens) -> Result<(), Stop>
 }
 
 /// What was found, where something was.
-fn needed<'a>(
-    found: Option<ValueText<'a>>,
-    left: &Tokens<'a>,
-) -> Result<ValueText<'a>, Stop>
+fn needed<'a>(found: Option<ValueText<'a>>, left: &Tokens<'a>) -> Result<ValueText<'a>, Stop>
     ensures { Reads result left.now left.now (needed found.entry) }
 {
     found.ok_or(left.stop())

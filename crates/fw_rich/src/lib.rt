@@ -3,7 +3,12 @@
 #![tactic(auto)]
 
 mod bytes;
+mod error;
 mod grammar;
+mod numbers;
 mod parts;
 mod token;
 mod tokens;
+mod values;
+
+pub use error::RichError;
