@@ -7,6 +7,7 @@ mod error;
 mod grammar;
 mod numbers;
 mod parts;
+mod reading;
 mod token;
 mod tokens;
 mod values;
