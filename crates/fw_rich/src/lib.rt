@@ -7,9 +7,12 @@ mod error;
 mod grammar;
 mod numbers;
 mod parts;
+mod read;
 mod reading;
+mod refusals;
 mod token;
 mod tokens;
 mod values;
 
 pub use error::RichError;
+pub use read::read_rich;
