@@ -1,3 +1,4 @@
+pub mod Canonical
 pub mod Grammar
 pub mod Names
 pub mod Numbers

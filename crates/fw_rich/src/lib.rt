@@ -7,6 +7,7 @@ mod error;
 mod grammar;
 mod numbers;
 mod parts;
+mod print;
 mod read;
 mod reading;
 mod refusals;
@@ -15,4 +16,5 @@ mod tokens;
 mod values;
 
 pub use error::RichError;
+pub use print::{print_rich, push_rich};
 pub use read::read_rich;

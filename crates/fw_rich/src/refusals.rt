@@ -305,7 +305,8 @@ fn rejects_fit(family: Option<Family>, action: &Option<Action>) -> bool
     }
 }
 
-fn is_zero(priority: i32) -> bool
+/// Whether a priority is 0, as it is where none is given.
+pub fn is_zero(priority: i32) -> bool
     ensures { result ≡ is_zero priority }
 {
     priority == 0
