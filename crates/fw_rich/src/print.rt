@@ -7,6 +7,7 @@ use fw_addr::{Addr, Family, Level, Limit};
 use fw_base::{Memory, Text};
 use fw_model::{Act, Action, Binding, Element, Forward, Port, Rich, RichLog, Side};
 use std::alloc::Global;
+use std::fmt;
 
 /// The canonical text of a rule: its parts in the order of the grammar, one blank between tokens, all values in double
 /// quotes, the priority only if it isn't 0, `NOT` in capitals, a prefix only if it isn't empty, a level only if it isn't
@@ -101,6 +102,14 @@ fn push_port(out: &mut String, port: &Port) -> Result<(), Memory>
     Ok(())
 }
 
+/// Appends a word and a port.
+fn push_ports(out: &mut String, word: &str, port: &Port) -> Result<(), Memory>
+    ensures { OnOk result (string_bytes out.new ≡ string_bytes out.old ++ (word.now ++ port_text port.now)) }
+{
+    out.push_str(word)?;
+    push_port(out, port)
+}
+
 fn push_to_port(out: &mut String, port: Option<u16>) -> Result<(), Memory>
     ensures { OnOk result (string_bytes out.new ≡ string_bytes out.old ++ to_port_text port) }
 {
@@ -120,10 +129,10 @@ fn push_to_addr(out: &mut String, addr: Option<Addr>) -> Result<(), Memory>
 }
 
 #[tactic(auto, unfolding(crate::specs::Canonical::forward_text))]
-fn push_forward(out: &mut String, forward: &Forward) -> Result<(), Memory>
-    ensures { OnOk result (string_bytes out.new ≡ string_bytes out.old ++ forward_text forward.now) }
+fn push_forward(out: &mut String, word: &str, forward: &Forward) -> Result<(), Memory>
+    ensures { OnOk result (string_bytes out.new ≡ string_bytes out.old ++ (word.now ++ forward_text forward.now)) }
 {
-    push_port(out, &forward.port)?;
+    push_ports(out, word, &forward.port)?;
     push_to_port(out, forward.to_port)?;
     push_to_addr(out, forward.to_addr)
 }
@@ -137,24 +146,32 @@ fn push_element(out: &mut String, element: &Option<Element>) -> Result<(), Memor
     };
     match element {
         Element::Service(name) => write!(out, " service name=\"{name}\"")?,
-        Element::Port(port) => {
-            out.push_str(" port")?;
-            push_port(out, port)?;
-        }
+        Element::Port(port) => push_ports(out, " port", port)?,
         Element::Protocol(protocol) => write!(out, " protocol value=\"{protocol}\"")?,
         Element::IcmpBlock(name) => write!(out, " icmp-block name=\"{name}\"")?,
         Element::IcmpType(name) => write!(out, " icmp-type name=\"{name}\"")?,
         Element::Masquerade => out.push_str(" masquerade")?,
-        Element::SourcePort(port) => {
-            out.push_str(" source-port")?;
-            push_port(out, port)?;
-        }
-        Element::Forward(forward) => {
-            out.push_str(" forward-port")?;
-            push_forward(out, forward)?;
-        }
+        Element::SourcePort(port) => push_ports(out, " source-port", port)?,
+        Element::Forward(forward) => push_forward(out, " forward-port", forward)?,
     }
     Ok(())
+}
+
+/// A limit, printed as in a rule.
+#[derive(Clone, Copy)]
+struct Rate(Limit);
+
+impl fmt::Display for Rate {
+    ghost use Rattle.std.specs.Prelude.{Some};
+    ghost use Rattle.fw_rich.specs.Canonical.{rate_text};
+
+    ghost output = { λ rate. Some (rate_text rate.0) };
+
+    fn fmt<W: fmt::Write>(&self, f: &mut fmt::Formatter<W>) -> fmt::Result {
+        let count = self.0.count;
+        let unit = self.0.unit.letter();
+        write!(f, "{count}/{unit}")
+    }
 }
 
 #[tactic(auto, unfolding(crate::specs::Canonical::limit_text))]
@@ -162,9 +179,8 @@ fn push_limit(out: &mut String, limit: &Option<Limit>) -> Result<(), Memory>
     ensures { OnOk result (string_bytes out.new ≡ string_bytes out.old ++ limit_text limit.now) }
 {
     if let Some(limit) = limit {
-        let count = limit.count;
-        let unit = limit.unit.letter();
-        write!(out, " limit value=\"{count}/{unit}\"")?;
+        let rate = Rate(*limit);
+        write!(out, " limit value=\"{rate}\"")?;
     }
     Ok(())
 }
