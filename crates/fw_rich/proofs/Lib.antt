@@ -2,5 +2,4 @@ pub mod Ascii
 pub mod Boundaries
 pub mod HexLemmas
 pub mod Said
-pub mod Spelled
 pub mod TokenSteps
