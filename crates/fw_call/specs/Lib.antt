@@ -1,2 +1,3 @@
 pub mod Calls
+pub mod Ipsets
 pub mod Members

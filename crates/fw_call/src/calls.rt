@@ -1,17 +1,23 @@
 //! Reading what follows the word `call` and the client's number.
-ghost use Rattle.fw_call.specs.Calls.{arguments, binding_call, call_of, change_zone_call, inversion_call, setting_call, setting_words, timeout, zone_of_call};
-ghost use Rattle.fw_words.specs.Reading.{Reads, Says};
-ghost use Rattle.std.specs.Prelude.{◌≡◌, Some, None, MatchResult};
+ghost use Rattle.fw_call.specs.Calls.{arguments, binding_call, call_of, change_zone_call, inversion_call, ipset_request, setting_call, setting_words, timeout, zone_of_call, zone_request};
+ghost use Rattle.fw_words.specs.Reading.{Reads, Says, at_end};
+ghost use Rattle.std.specs.Prelude.{◌≡◌, Option, Some, None, MatchResult};
 
+use super::ipset::{
+    read_entries_call, read_entry_call, read_has_ipset_call, read_set_entries_request,
+};
 use super::member::read_member;
-use super::{BindingKind, BindingWord, Call, Member, SettingKind, SettingWords, Verb};
+use super::{
+    BindingKind, BindingWord, Call, IpsetCall, Member, Request, SettingKind, SettingWords, Verb,
+    ZoneCall,
+};
 use fw_base::Text;
 use fw_words::{LineError, Words};
 use std::alloc::Global;
 
-/// A call, by the words of its line from its member's name on.
+/// What a call asks for, by the words of its line from its member's name on.
 #[tactic(auto, unfolding(crate::specs::Calls::call_of))]
-pub fn read_call(alloc: Global, words: &mut Words) -> Result<Call, LineError>
+pub fn read_call(alloc: Global, words: &mut Words) -> Result<Request, LineError>
     ensures { Says result (call_of words.old) }
 {
     let Some(member) = read_member(words.next()?) else {
@@ -21,32 +27,53 @@ pub fn read_call(alloc: Global, words: &mut Words) -> Result<Call, LineError>
 }
 
 #[tactic(auto, unfolding(crate::specs::Calls::arguments))]
-fn read_arguments(alloc: Global, member: Member, words: &mut Words) -> Result<Call, LineError>
+fn read_arguments(alloc: Global, member: Member, words: &mut Words) -> Result<Request, LineError>
     ensures { Says result (arguments member words.old) }
 {
     match member {
-        Member::Setting(verb, kind) => read_setting_call(alloc, verb, kind, words),
-        Member::Inversion(verb) => read_inversion_call(alloc, verb, words),
-        Member::Binding(verb, kind) => read_binding_call(alloc, verb, kind, words),
-        Member::ChangeZone(kind) => read_change_zone_call(alloc, kind, words),
-        Member::ZoneOf(kind) => read_zone_of_call(alloc, kind, words),
-        Member::Zones => {
-            words.end()?;
-            Ok(Call::Zones)
-        }
-        Member::ActiveZones => {
-            words.end()?;
-            Ok(Call::ActiveZones)
-        }
-        Member::DefaultZone => {
-            words.end()?;
-            Ok(Call::DefaultZone)
-        }
-        Member::Services => {
-            words.end()?;
-            Ok(Call::Services)
-        }
+        Member::Setting(verb, kind) => on_zones(read_setting_call(alloc, verb, kind, words)),
+        Member::Inversion(verb) => on_zones(read_inversion_call(alloc, verb, words)),
+        Member::Binding(verb, kind) => on_zones(read_binding_call(alloc, verb, kind, words)),
+        Member::ChangeZone(kind) => on_zones(read_change_zone_call(alloc, kind, words)),
+        Member::ZoneOf(kind) => on_zones(read_zone_of_call(alloc, kind, words)),
+        Member::Zones => on_zones(read_plain_call(ZoneCall::Zones, words)),
+        Member::ActiveZones => on_zones(read_plain_call(ZoneCall::ActiveZones, words)),
+        Member::DefaultZone => on_zones(read_plain_call(ZoneCall::DefaultZone, words)),
+        Member::Services => on_zones(read_plain_call(ZoneCall::Services, words)),
+        Member::Ipsets => on_ipsets(read_plain_call(IpsetCall::Ipsets, words)),
+        Member::HasIpset => on_ipsets(read_has_ipset_call(alloc, words)),
+        Member::Entry(verb) => on_ipsets(read_entry_call(alloc, verb, words)),
+        Member::Entries => on_ipsets(read_entries_call(alloc, words)),
+        Member::SetEntries => read_set_entries_request(alloc, words),
     }
+}
+
+/// What a call on zones asks for.
+fn on_zones(read: Result<ZoneCall, LineError>) -> Result<Request, LineError>
+    ensures { (said : Option ZoneCall) → Says read said → Says result (zone_request said) }
+{
+    match read {
+        Ok(call) => Ok(Request::Call(Call::Zone(call))),
+        Err(error) => Err(error),
+    }
+}
+
+/// What a call on ipsets asks for.
+fn on_ipsets(read: Result<IpsetCall, LineError>) -> Result<Request, LineError>
+    ensures { (said : Option IpsetCall) → Says read said → Says result (ipset_request said) }
+{
+    match read {
+        Ok(call) => Ok(Request::Call(Call::Ipset(call))),
+        Err(error) => Err(error),
+    }
+}
+
+/// A call without arguments.
+fn read_plain_call<T: Drop>(call: T, words: &mut Words) -> Result<T, LineError>
+    ensures { Says result (at_end call words.old) }
+{
+    words.end()?;
+    Ok(call)
 }
 
 fn read_setting_call(
@@ -54,7 +81,7 @@ fn read_setting_call(
     verb: Verb,
     kind: SettingKind,
     words: &mut Words,
-) -> Result<Call, LineError>
+) -> Result<ZoneCall, LineError>
     ensures { Says result (setting_call verb kind words.old) }
 {
     let zone = words.next()?;
@@ -62,7 +89,7 @@ fn read_setting_call(
     read_timeout(verb, words)?;
     words.end()?;
     let zone = Text::of(alloc, zone)?;
-    Ok(Call::Setting {
+    Ok(ZoneCall::Setting {
         verb,
         zone,
         setting,
@@ -131,13 +158,13 @@ fn read_timeout(verb: Verb, words: &mut Words) -> Result<(), LineError>
     }
 }
 
-fn read_inversion_call(alloc: Global, verb: Verb, words: &mut Words) -> Result<Call, LineError>
+fn read_inversion_call(alloc: Global, verb: Verb, words: &mut Words) -> Result<ZoneCall, LineError>
     ensures { Says result (inversion_call verb words.old) }
 {
     let zone = words.next()?;
     words.end()?;
     let zone = Text::of(alloc, zone)?;
-    Ok(Call::Inversion { verb, zone })
+    Ok(ZoneCall::Inversion { verb, zone })
 }
 
 fn read_binding_call(
@@ -145,7 +172,7 @@ fn read_binding_call(
     verb: Verb,
     kind: BindingKind,
     words: &mut Words,
-) -> Result<Call, LineError>
+) -> Result<ZoneCall, LineError>
     ensures { Says result (binding_call verb kind words.old) }
 {
     let zone = words.next()?;
@@ -153,7 +180,7 @@ fn read_binding_call(
     words.end()?;
     let zone = Text::of(alloc, zone)?;
     let text = Text::of(alloc, text)?;
-    Ok(Call::Binding {
+    Ok(ZoneCall::Binding {
         verb,
         zone,
         binding: BindingWord { kind, text },
@@ -164,7 +191,7 @@ fn read_change_zone_call(
     alloc: Global,
     kind: BindingKind,
     words: &mut Words,
-) -> Result<Call, LineError>
+) -> Result<ZoneCall, LineError>
     ensures { Says result (change_zone_call kind words.old) }
 {
     let zone = words.next()?;
@@ -172,19 +199,23 @@ fn read_change_zone_call(
     words.end()?;
     let zone = Text::of(alloc, zone)?;
     let text = Text::of(alloc, text)?;
-    Ok(Call::ChangeZone {
+    Ok(ZoneCall::ChangeZone {
         zone,
         binding: BindingWord { kind, text },
     })
 }
 
-fn read_zone_of_call(alloc: Global, kind: BindingKind, words: &mut Words) -> Result<Call, LineError>
+fn read_zone_of_call(
+    alloc: Global,
+    kind: BindingKind,
+    words: &mut Words,
+) -> Result<ZoneCall, LineError>
     ensures { Says result (zone_of_call kind words.old) }
 {
     let text = words.next()?;
     words.end()?;
     let text = Text::of(alloc, text)?;
-    Ok(Call::ZoneOf {
+    Ok(ZoneCall::ZoneOf {
         binding: BindingWord { kind, text },
     })
 }

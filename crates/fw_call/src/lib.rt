@@ -3,8 +3,9 @@
 
 mod call;
 mod calls;
+mod ipset;
 mod member;
 
-pub use call::{BindingWord, Call, SettingWords};
+pub use call::{BindingWord, Call, EntriesCall, IpsetCall, Request, SettingWords, ZoneCall};
 pub use calls::read_call;
 pub use member::{BindingKind, Member, SettingKind, Verb};

@@ -1,7 +1,7 @@
 //! The members of firewalld's D-Bus interfaces that a script may call.
 ghost use Rattle.std.specs.Prelude.{◌≡◌};
 ghost use Rattle.fw_text.specs.Names.{named};
-ghost use Rattle.fw_call.specs.Members.{members};
+ghost use Rattle.fw_call.specs.Members.{binding_members, ipset_members, members, root_members, setting_members};
 
 /// What a call does with an entry of a zone.
 #[derive(Clone, Copy, Debug, PartialEq, Eq)]
@@ -49,11 +49,33 @@ pub enum Member {
     DefaultZone,
     /// `listServices`.
     Services,
+    /// `getIPSets`.
+    Ipsets,
+    /// `queryIPSet`.
+    HasIpset,
+    /// `addEntry`, `removeEntry`, `queryEntry`.
+    Entry(Verb),
+    /// `getEntries`.
+    Entries,
+    /// `setEntries`.
+    SetEntries,
 }
 
 /// The member of this name: its interface's name in scripts, a dot, and its own name. There is none for another name.
+#[tactic(auto, using(crate::proofs::Tables::named_joined))]
 pub fn read_member(name: &str) -> Option<Member>
     ensures { result ≡ named members name.now }
+{
+    setting_member(name)
+        .or_else(|| binding_member(name))
+        .or_else(|| root_member(name))
+        .or_else(|| ipset_member(name))
+}
+
+/// Settings of zones.
+#[tactic(auto, unfolding(crate::specs::Members::setting_members))]
+fn setting_member(name: &str) -> Option<Member>
+    ensures { result ≡ named setting_members name.now }
 {
     match name {
         "zone.addPort" => Some(Member::Setting(Verb::Add, SettingKind::Port)),
@@ -74,6 +96,16 @@ pub fn read_member(name: &str) -> Option<Member>
         "zone.addIcmpBlockInversion" => Some(Member::Inversion(Verb::Add)),
         "zone.removeIcmpBlockInversion" => Some(Member::Inversion(Verb::Remove)),
         "zone.queryIcmpBlockInversion" => Some(Member::Inversion(Verb::Query)),
+        _ => None,
+    }
+}
+
+/// Bindings of zones, and which zones there are.
+#[tactic(auto, unfolding(crate::specs::Members::binding_members))]
+fn binding_member(name: &str) -> Option<Member>
+    ensures { result ≡ named binding_members name.now }
+{
+    match name {
         "zone.addInterface" => Some(Member::Binding(Verb::Add, BindingKind::Interface)),
         "zone.removeInterface" => Some(Member::Binding(Verb::Remove, BindingKind::Interface)),
         "zone.queryInterface" => Some(Member::Binding(Verb::Query, BindingKind::Interface)),
@@ -86,8 +118,35 @@ pub fn read_member(name: &str) -> Option<Member>
         "zone.getZoneOfSource" => Some(Member::ZoneOf(BindingKind::Source)),
         "zone.getZones" => Some(Member::Zones),
         "zone.getActiveZones" => Some(Member::ActiveZones),
+        _ => None,
+    }
+}
+
+/// The firewall as a whole.
+#[tactic(auto, unfolding(crate::specs::Members::root_members))]
+fn root_member(name: &str) -> Option<Member>
+    ensures { result ≡ named root_members name.now }
+{
+    match name {
         "root.getDefaultZone" => Some(Member::DefaultZone),
         "root.listServices" => Some(Member::Services),
+        _ => None,
+    }
+}
+
+/// Ipsets.
+#[tactic(auto, unfolding(crate::specs::Members::ipset_members))]
+fn ipset_member(name: &str) -> Option<Member>
+    ensures { result ≡ named ipset_members name.now }
+{
+    match name {
+        "ipset.getIPSets" => Some(Member::Ipsets),
+        "ipset.queryIPSet" => Some(Member::HasIpset),
+        "ipset.addEntry" => Some(Member::Entry(Verb::Add)),
+        "ipset.removeEntry" => Some(Member::Entry(Verb::Remove)),
+        "ipset.queryEntry" => Some(Member::Entry(Verb::Query)),
+        "ipset.getEntries" => Some(Member::Entries),
+        "ipset.setEntries" => Some(Member::SetEntries),
         _ => None,
     }
 }

@@ -4,20 +4,20 @@ ghost use Rattle.std.specs.List.{flat_map};
 ghost use Rattle.fw_line.specs.Asked.{IsAsked};
 ghost use Rattle.fw_run.specs.Language.{RunsLine};
 ghost use Rattle.fw_told.specs.Told.{signal_line};
-ghost use Rattle.fw_firewall.specs.Script.{call_step, end_step, end_text, first_state, known, line_step, packet_step, step};
+ghost use Rattle.fw_firewall.specs.Script.{answered, call_step, end_step, end_text, first_state, known, line_step, packet_step, step};
 ghost use Rattle.fw_firewall.specs.Sessions.{told_to};
 
 use super::sessions::Sessions;
+use fw_answer::Answer;
 use fw_base::{Memory, Seq};
 use fw_call::Call;
 use fw_line::{Line, push_outcome, read_line};
-use fw_model::{Packet, Runtime};
+use fw_model::{Config, Packet, Runtime};
 use fw_run::Machine;
 use fw_service::built_in_config;
-use fw_told::{Signal, push_reply, push_signal};
+use fw_told::{Reply, Signal, push_reply, push_signal};
 use fw_verdict::verdict;
 use fw_words::LineError;
-use fw_zone_calls::answer_call;
 use std::alloc::Global;
 use std::marker::Model;
 
@@ -63,6 +63,9 @@ impl Firewall {
         match line {
             Line::Skip => Ok(()),
             Line::Call { client, call } => self.call(alloc, client, &call, out),
+            Line::Unfit { client, signature } => {
+                push_reply(alloc, out, client, &Reply::InvalidArgs { signature })
+            }
             Line::End { client } => self.end(client, out),
             Line::Packet(packet) => self.look(alloc, &packet, out),
         }
@@ -121,6 +124,16 @@ impl Firewall {
     {
         let outcome = verdict(alloc, &self.runtime, packet)?;
         push_outcome(out, &outcome)
+    }
+}
+
+/// Answers a call by the crate that has the calls on what it is about.
+fn answer_call(alloc: Global, config: &mut Config, call: &Call) -> Result<Answer, Memory>
+    ensures answered { IfOk result (λ answer. answered config.old call.now ≡ record { signals = answer.signals; reply = answer.reply; after = config.new }) }
+{
+    match call {
+        Call::Zone(call) => fw_zone_calls::answer_call(alloc, config, call),
+        Call::Ipset(call) => fw_ipset_calls::answer_call(alloc, config, call),
     }
 }
 

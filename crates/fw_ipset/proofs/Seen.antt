@@ -126,3 +126,11 @@ pub seen_now : {S : Type 0} (seen new : HashSet Key S) (items : List Item) (item
     → ((other : Key) → bag.contains same new other ≡ cond (same k other) true (bag.contains same seen other)) → HasSeen new (items ++ item ∷ [])
 seen_now seen new items item k has is updates =
     seen_more seen new items item has (λ other. updates other ∙ ap (λ one. cond (same one other) true (bag.contains same seen other)) is)
+
+-- an item whose key was seen is one of the items, and one whose key wasn't is none of them
+pub is_among : {S : Type 0} (seen : HashSet Key S) (items : List Item) (item : Item) (k : Key) (found : Bool) → HasSeen seen items → k ≡ key item → found ≡ bag.contains same seen k → found ≡ true → IsIn item items
+is_among seen items item k found has is answered was = has.sound item (sym (ap (λ one. bag.contains same seen one) is) ∙ sym answered ∙ was)
+
+pub is_not_among : {S : Type 0} (seen : HashSet Key S) (items : List Item) (item : Item) (k : Key) (found : Bool) → HasSeen seen items → k ≡ key item → found ≡ bag.contains same seen k → found ≡ false → ¬ (IsIn item items)
+is_not_among seen items item k found has is answered was among =
+    false≢true (sym was ∙ answered ∙ ap (λ one. bag.contains same seen one) is ∙ has.whole item among)

@@ -3,11 +3,14 @@
 
 mod edits;
 mod error;
+mod left;
 mod once;
 mod read;
 mod replace;
 
 pub use edits::{add_item, has_item, remove_item};
 pub use error::SetError;
+pub use left::lacking;
+pub use once::keep_once;
 pub use read::read_item;
 pub use replace::replace_items;

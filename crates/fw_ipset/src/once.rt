@@ -20,7 +20,7 @@ pub enum Key {
     Mac(u64),
 }
 
-fn key_of(item: &Item) -> Key
+pub fn key_of(item: &Item) -> Key
     ensures { result ≡ key item.now }
 {
     match item {

@@ -14,5 +14,6 @@ pub record IsAskedPacket (packet : Packet) : Type 0 where
 abbrev pub IsAsked : Line → Type 0
 IsAsked line.Skip = Unit {0}
 IsAsked (line.Call client call) = client < 10000
+IsAsked (line.Unfit client signature) = client < 10000
 IsAsked (line.End client) = client < 10000
 IsAsked (line.Packet packet) = IsAskedPacket packet

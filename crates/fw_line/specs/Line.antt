@@ -7,6 +7,8 @@ use Rattle.fw_text.specs.Steps.{◌>>=◌}
 use Rattle.fw_words.specs.Reading.{Read, at_end, next}
 use Rattle.fw_words.specs.Words.{words}
 use Rattle.fw_call.specs.Calls.{call_of}
+use Rattle.fw_call.specs.declared.call.Request.{Request}
+use Rattle.fw_call.specs.declared.call.Request.TheVariants as request
 use Rattle.fw_packet.specs.Packets.{packet_of}
 use Rattle.fw_line.specs.declared.line.Line.{Line}
 use Rattle.fw_line.specs.declared.line.Line.TheVariants as line
@@ -18,12 +20,17 @@ client words = do
   number ← number_to 9999 word.0
   Some (number, word.1)
 
+-- a call of a client, or one whose arguments aren't of their types
+abbrev pub request_line : (client : ℕ) → Request → Line
+request_line client (request.Call call) = line.Call client call
+request_line client (request.Unfit signature) = line.Unfit client signature
+
 -- `call CLIENT MEMBER ARGUMENTS`
 unfoldable pub call_line : List (List ℕ) → Option Line
 call_line words = do
   client ← client words
-  call ← call_of client.1
-  Some (line.Call client.0 call)
+  request ← call_of client.1
+  Some (request_line client.0 request)
 
 -- `end CLIENT`
 unfoldable pub end_line : List (List ℕ) → Option Line

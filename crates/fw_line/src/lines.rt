@@ -8,7 +8,7 @@ ghost use Rattle.fw_line.specs.Asked.{IsAsked};
 ghost use Rattle.fw_line.specs.Line.{call_line, client, end_line, is_skipped, line_of, line_of_words};
 
 use super::Line;
-use fw_call::read_call;
+use fw_call::{Request, read_call};
 use fw_packet::read_packet;
 use fw_text::read_number;
 use fw_words::{LineError, Words, split_words};
@@ -76,8 +76,10 @@ fn read_call_line(alloc: Global, words: &mut Words) -> Result<Line, LineError>
     ensures asked { IfOk result IsAsked }
 {
     let client = read_client(words)?;
-    let call = read_call(alloc, words)?;
-    Ok(Line::Call { client, call })
+    match read_call(alloc, words)? {
+        Request::Call(call) => Ok(Line::Call { client, call }),
+        Request::Unfit { signature } => Ok(Line::Unfit { client, signature }),
+    }
 }
 
 #[tactic(auto, unfolding(crate::specs::Line::end_line))]

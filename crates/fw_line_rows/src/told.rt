@@ -20,6 +20,7 @@ fn tell_line(alloc: Global, out: &mut String, line: &Line) -> Result<(), Memory>
     match line {
         Line::Skip => out.push_str("skip")?,
         Line::Call { client, .. } => write!(out, "call {client}")?,
+        Line::Unfit { client, signature } => write!(out, "unfit {client} {signature}")?,
         Line::End { client } => write!(out, "end {client}")?,
         Line::Packet(packet) => tell_packet(alloc, out, packet)?,
     }

@@ -1,5 +1,6 @@
 -- The lines that tell a client of signals and replies (firewalld.dbus(5), its signals and the error
--- `org.fedoraproject.FirewallD1.Exception`; the spelling of the lines is this project's own).
+-- `org.fedoraproject.FirewallD1.Exception`; `org.freedesktop.DBus.Error.InvalidArgs` is D-Bus's own error; the spelling of the
+-- lines is this project's own).
 use Rattle.std.specs.Prelude.{ℕ, codes, decimal, if◌then◌else◌, List, [], ◌∷◌, ◌++◌}
 use Rattle.std.specs.List.{flat_map}
 use Rattle.fw_model.specs.Codes.{code_name}
@@ -45,6 +46,8 @@ signal_name signal.ZoneSourceAdded = codes "zone.SourceAdded"
 signal_name signal.ZoneSourceRemoved = codes "zone.SourceRemoved"
 signal_name signal.ZoneOfInterfaceChanged = codes "zone.ZoneOfInterfaceChanged"
 signal_name signal.ZoneOfSourceChanged = codes "zone.ZoneOfSourceChanged"
+signal_name signal.IpsetEntryAdded = codes "ipset.EntryAdded"
+signal_name signal.IpsetEntryRemoved = codes "ipset.EntryRemoved"
 
 -- the line of a signal
 unfoldable pub signal_line : (client : ℕ) → Signal → List ℕ
@@ -58,9 +61,14 @@ reason_text code subject = code_name code ++ codes ": " ++ subject
 unfoldable pub exception_text : (reason : List ℕ) → List ℕ
 exception_text reason = codes "error org.fedoraproject.FirewallD1.Exception " ++ quoted reason
 
+-- D-Bus's error of arguments that aren't of the member's types
+unfoldable pub invalid_args_text : (signature : List ℕ) → List ℕ
+invalid_args_text signature = codes "error org.freedesktop.DBus.Error.InvalidArgs " ++ quoted signature
+
 abbrev pub reply_text : Reply → List ℕ
 reply_text (reply.Ok values) = codes "ok" ++ values_text values
 reply_text (reply.Refused code subject) = exception_text (reason_text code subject)
+reply_text (reply.InvalidArgs signature) = invalid_args_text signature
 
 -- the line of a reply
 unfoldable pub reply_line : (client : ℕ) → Reply → List ℕ

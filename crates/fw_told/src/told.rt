@@ -1,7 +1,7 @@
 //! What a client is told: signals and replies, as values and as lines of a script's output.
 ghost use Rattle.std.specs.Prelude.{◌≡◌, ◌++◌, IfOk, OnOk, string_bytes};
 ghost use Rattle.std.specs.List.{flat_map};
-ghost use Rattle.fw_told.specs.Told.{exception_text, reason_text, reply_line, reply_text, signal_line, signal_name, value_text, values_text};
+ghost use Rattle.fw_told.specs.Told.{exception_text, invalid_args_text, reason_text, reply_line, reply_text, signal_line, signal_name, value_text, values_text};
 
 use super::lists::{push_active_zones, push_texts};
 use fw_base::{Memory, Seq, Text};
@@ -28,7 +28,7 @@ pub struct Active {
     pub sources: Seq<Text>,
 }
 
-/// The kinds of signals of the interface `zone`, with what each carries (firewalld.dbus(5), "Signals").
+/// The kinds of signals of the interfaces `zone` and `ipset`, with what each carries (firewalld.dbus(5), "Signals").
 #[derive(Clone, Copy, Debug, PartialEq, Eq)]
 pub enum SignalKind {
     /// `PortAdded`: zone, port, protocol, timeout.
@@ -67,6 +67,10 @@ pub enum SignalKind {
     ZoneOfInterfaceChanged,
     /// `ZoneOfSourceChanged`: zone, source.
     ZoneOfSourceChanged,
+    /// `EntryAdded`: ipset, entry.
+    IpsetEntryAdded,
+    /// `EntryRemoved`: ipset, entry.
+    IpsetEntryRemoved,
 }
 
 /// A signal: something changed.
@@ -82,6 +86,8 @@ pub enum Reply {
     Ok(Seq<Value>),
     /// The call is refused for a reason, which names what it refuses.
     Refused { code: Code, subject: Text },
+    /// The call's arguments aren't of these types, which are a D-Bus signature (D-Bus Specification, "Type System").
+    InvalidArgs { signature: Text },
 }
 
 impl SignalKind {
@@ -108,6 +114,8 @@ impl SignalKind {
             SignalKind::ZoneSourceRemoved => "zone.SourceRemoved",
             SignalKind::ZoneOfInterfaceChanged => "zone.ZoneOfInterfaceChanged",
             SignalKind::ZoneOfSourceChanged => "zone.ZoneOfSourceChanged",
+            SignalKind::IpsetEntryAdded => "ipset.EntryAdded",
+            SignalKind::IpsetEntryRemoved => "ipset.EntryRemoved",
         }
     }
 }
@@ -148,6 +156,7 @@ fn push_reply_text(alloc: Global, out: &mut String, reply: &Reply) -> Result<(),
             push_values(out, values.as_slice())
         }
         Reply::Refused { code, subject } => push_refusal(alloc, out, *code, subject.as_str()),
+        Reply::InvalidArgs { signature } => push_invalid_args(out, signature.as_str()),
     }
 }
 
@@ -163,6 +172,14 @@ fn push_exception(out: &mut String, reason: &str) -> Result<(), Memory>
 {
     out.push_str("error org.fedoraproject.FirewallD1.Exception ")?;
     push_quoted(out, reason)?;
+    Ok(())
+}
+
+fn push_invalid_args(out: &mut String, signature: &str) -> Result<(), Memory>
+    ensures { OnOk result (string_bytes out.new ≡ string_bytes out.old ++ invalid_args_text signature.now) }
+{
+    out.push_str("error org.freedesktop.DBus.Error.InvalidArgs ")?;
+    push_quoted(out, signature)?;
     Ok(())
 }
 

@@ -11,17 +11,11 @@ use Rattle.fw_zone.specs.Bindings.{IsBound, IsFirstListed, IsInConflict, IsListe
 use Rattle.fw_zone.specs.Lists.{IsIn, IsRemoved}
 use Rattle.fw_zone.specs.declared.bindings.BindError.{BindError}
 use Rattle.fw_zone.specs.declared.bindings.BindError.TheVariants as bind
-use Rattle.fw_zone_calls.proofs.Items.{IsEquality, is_in_decides, removed_is_without}
+use Rattle.fw_answer.proofs.Items.{IsEquality, is_in_decides, removed_is_without}
 use Rattle.fw_zone_calls.specs.Entries.{first_changed}
-use Rattle.fw_zone_calls.specs.Lists.{is_in, without}
-use Rattle.fw_zone_calls.specs.Refusals.{Edits}
+use Rattle.fw_answer.specs.Lists.{is_in, without}
+use Rattle.fw_answer.specs.Refusals.{Edits}
 use Rattle.fw_zone_calls.specs.Settled.{settled, settled_move}
-
--- to what it was
-pub set_as_it_was : {A : Type 0} (items : List A) (place : ℕ) (item : A) → slice_get items place ≡ Some item → slice_set items place item ≡ items
-set_as_it_was [] place item is = cc
-set_as_it_was (first ∷ others) zero item is = cc
-set_as_it_was (first ∷ others) (suc place) item is = ap (λ rest. first ∷ rest) (set_as_it_was others place item is)
 
 -- what stands at another place stays
 other_stays : {A : Type 0} (items : List A) (place other : ℕ) (item : A) → other ≢ place → slice_get (slice_set items place item) other ≡ slice_get items other

@@ -2,14 +2,14 @@
 use Rattle.std.proofs.Common.{◌≡◌, ℕ, List, Some, Result, Ok, Err, slice_get, slice_set, refl, sym, ap, ◌∙◌}
 use Rattle.fw_model.specs.declared.config.Config.{Config}
 use Rattle.fw_model.specs.declared.zone.Zone.{Zone}
-use Rattle.fw_zone_calls.proofs.Bindings.{set_as_it_was}
+use Rattle.fw_answer.proofs.Places.{set_as_it_was}
 use Rattle.fw_zone_calls.specs.Calls.{in_zone, look_up}
-use Rattle.fw_zone_calls.specs.Refusals.{Answered, Answers, ◌>>=◌, result_and_then}
+use Rattle.fw_answer.specs.Refusals.{Answered, Answers, ◌>>=◌, result_and_then}
 use Rattle.fw_zone_calls.specs.Zones.{Found}
-use Rattle.fw_zone_calls.specs.declared.answer.Answer.{Answer}
-use Rattle.fw_zone_calls.specs.declared.refusal.Refusal.{Refusal}
-use Rattle.fw_zone_calls.specs.declared.refusal.Stop.{Stop}
-use Rattle.fw_zone_calls.specs.declared.refusal.Stop.TheVariants as stop
+use Rattle.fw_answer.specs.declared.answer.Answer.{Answer}
+use Rattle.fw_answer.specs.declared.refusal.Refusal.{Refusal}
+use Rattle.fw_answer.specs.declared.refusal.Stop.{Stop}
+use Rattle.fw_answer.specs.declared.refusal.Stop.TheVariants as stop
 
 abbrev with_zone : Config → (place : ℕ) → Zone → Config
 with_zone config place zone = record config { zones = slice_set config.zones place zone }

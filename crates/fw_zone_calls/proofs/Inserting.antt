@@ -17,8 +17,3 @@ inserted_at zone (first ∷ others) (suc place) within behind (inr at) =
     let first_stays = behind 0 (omega arith) in
     let bound : place ≤ length others = omega arith in
     rw first_stays (ap (λ (rest : List Active). first ∷ rest) (inserted_at zone others place bound (λ before below. behind (suc before) (omega arith)) (inr at)))
-
--- one step more of a fold
-pub fold_more : {A B : Type 0} (step : B → A → B) (start : B) (items : List A) (item : A) → fold step start (items ++ item ∷ []) ≡ step (fold step start items) item
-fold_more step start [] item = refl
-fold_more step start (first ∷ others) item = fold_more step (step start first) others item

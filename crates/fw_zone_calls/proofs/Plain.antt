@@ -11,10 +11,10 @@ use Rattle.fw_model.specs.declared.setting.Setting.{Setting}
 use Rattle.fw_zone.specs.declared.settings.AddError.{AddError}
 use Rattle.fw_zone.specs.declared.settings.AddError.TheVariants as add
 use Rattle.fw_zone.specs.declared.settings.NotEnabled.{NotEnabled}
-use Rattle.fw_zone_calls.proofs.Equality as equality
-use Rattle.fw_zone_calls.proofs.Items.{is_in_decides, removed_is_without}
-use Rattle.fw_zone_calls.specs.Equal.{same_port}
-use Rattle.fw_zone_calls.specs.Refusals.{Edits}
+use Rattle.fw_answer.proofs.Equality as equality
+use Rattle.fw_answer.proofs.Items.{is_in_decides, removed_is_without}
+use Rattle.fw_answer.specs.Equal.{same_port}
+use Rattle.fw_answer.specs.Refusals.{Edits}
 use Rattle.fw_zone_calls.specs.Settings.{added, has, removed, whole, with_one, without_one}
 use Rattle.fw_zone_calls.specs.Settled.{settled_add, settled_remove}
 use Rattle.fw_zone_calls.specs.declared.setting.PlainSetting.{PlainSetting}

@@ -2,8 +2,8 @@
 -- `org.fedoraproject.FirewallD1.zone` and `getDefaultZone`).
 use Rattle.std.specs.Prelude.{ℕ, Bool, codes, List, [], ◌∷◌, map, Option, None, Some, find, Result, Ok, Err, slice_set}
 use Rattle.fw_call.specs.declared.call.BindingWord.{BindingWord}
-use Rattle.fw_call.specs.declared.call.Call.{Call}
-use Rattle.fw_call.specs.declared.call.Call.TheVariants as call
+use Rattle.fw_call.specs.declared.call.ZoneCall.{ZoneCall}
+use Rattle.fw_call.specs.declared.call.ZoneCall.TheVariants as call
 use Rattle.fw_call.specs.declared.member.Verb.{Verb}
 use Rattle.fw_call.specs.declared.member.Verb.TheVariants as verb
 use Rattle.fw_model.specs.declared.code.Code.TheVariants as code
@@ -18,12 +18,12 @@ use Rattle.fw_told.specs.declared.told.Value.TheVariants as value
 use Rattle.fw_zone_calls.specs.Active.{active_zones}
 use Rattle.fw_zone_calls.specs.Entries.{bound, entry_of, entry_text, holder, lists, moved, unbound}
 use Rattle.fw_zone_calls.specs.Inversion.{inversion_call}
-use Rattle.fw_zone_calls.specs.Refusals.{Answered, ◌>>=◌, refused, refused_as, result_and_then}
+use Rattle.fw_answer.specs.Refusals.{Answered, ◌>>=◌, refused, refused_as, replied, result_and_then, with_value}
 use Rattle.fw_zone_calls.specs.Settings.{setting_call}
 use Rattle.fw_zone_calls.specs.Zones.{Found, zone_meant}
 use Rattle.fw_zone_calls.specs.declared.entry.Entry.{Entry}
 use Rattle.fw_zone_calls.specs.declared.entry.Entry.TheVariants as entry
-use Rattle.fw_zone_calls.specs.declared.refusal.Refusal.{Refusal}
+use Rattle.fw_answer.specs.declared.refusal.Refusal.{Refusal}
 
 abbrev pub found_or_refused : (name : List ℕ) → Option Found → Result Found Refusal
 found_or_refused name None = refused code.InvalidZone name
@@ -68,10 +68,6 @@ with_zones config zone signal zones = record {
   after = record config { zones = zones };
 }
 
--- no signal, one value in reply, and no change
-abbrev pub with_value : Config → Value → Answered Config
-with_value config value = record { signals = []; reply = reply.Ok (value ∷ []); after = config }
-
 -- a call that binds, unbinds or asks for an entry
 abbrev pub binding_answered : Config → Found → Verb → (subject : List ℕ) → Entry → Result (Answered Config) Refusal
 binding_answered config found verb.Add subject entry = do
@@ -101,7 +97,7 @@ zone_of_call config word = do
   entry ← entry_of config.ipsets word
   Ok (with_value config (value.Text (holder (find (lists entry) config.zones))))
 
-unfoldable pub call_answered : Config → Call → Result (Answered Config) Refusal
+unfoldable pub call_answered : Config → ZoneCall → Result (Answered Config) Refusal
 call_answered config (call.Setting verb zone words) = in_zone config zone (λ found. setting_call config.services found verb words)
 call_answered config (call.Inversion verb zone) = in_zone config zone (λ found. inversion_call found verb)
 call_answered config (call.Binding verb zone word) = binding_call config verb zone word
@@ -112,11 +108,6 @@ call_answered config call.ActiveZones = Ok (with_value config (value.ActiveZones
 call_answered config call.DefaultZone = Ok (with_value config (value.Text config.default_zone))
 call_answered config call.Services = Ok (with_value config (value.Texts (map (λ service. service.name) config.services)))
 
--- a refusal is a reply, and changes nothing
-abbrev pub replied : Config → Result (Answered Config) Refusal → Answered Config
-replied config (Ok answered) = answered
-replied config (Err refusal) = record { signals = []; reply = reply.Refused refusal.code refusal.subject; after = config }
-
 -- what a call answers, and the configuration afterwards
-abbrev pub answered : Config → Call → Answered Config
+abbrev pub answered : Config → ZoneCall → Answered Config
 answered config call = replied config (call_answered config call)

@@ -18,13 +18,13 @@ use Rattle.fw_model.specs.declared.code.Code.TheVariants as code
 use Rattle.fw_model.specs.declared.ipset.IpSet.{IpSet}
 use Rattle.fw_model.specs.declared.zone.Zone.{Zone}
 use Rattle.fw_words.specs.Keys.{after_key}
-use Rattle.fw_zone_calls.specs.Equal.{same_source}
-use Rattle.fw_zone_calls.specs.Lists.{is_in, without}
-use Rattle.fw_zone_calls.specs.Refusals.{refused}
+use Rattle.fw_answer.specs.Equal.{same_source}
+use Rattle.fw_answer.specs.Lists.{is_in, without}
+use Rattle.fw_answer.specs.Refusals.{refused}
 use Rattle.fw_zone_calls.specs.Zones.{Found}
 use Rattle.fw_zone_calls.specs.declared.entry.Entry.{Entry}
 use Rattle.fw_zone_calls.specs.declared.entry.Entry.TheVariants as entry
-use Rattle.fw_zone_calls.specs.declared.refusal.Refusal.{Refusal}
+use Rattle.fw_answer.specs.declared.refusal.Refusal.{Refusal}
 
 abbrev pub interface_from : (text : List ℕ) → Option (List ℕ) → Result Entry Refusal
 interface_from text None = refused code.InvalidInterface text

@@ -8,8 +8,8 @@ use Rattle.fw_told.specs.declared.told.Reply.TheVariants as reply
 use Rattle.fw_told.specs.declared.told.SignalKind.{SignalKind}
 use Rattle.fw_told.specs.declared.told.SignalKind.TheVariants as signal
 use Rattle.fw_told.specs.declared.told.Value.TheVariants as value
-use Rattle.fw_zone_calls.specs.Refusals.{Answered, refused}
-use Rattle.fw_zone_calls.specs.declared.refusal.Refusal.{Refusal}
+use Rattle.fw_answer.specs.Refusals.{Answered, refused}
+use Rattle.fw_answer.specs.declared.refusal.Refusal.{Refusal}
 
 abbrev pub subject : List ℕ
 subject = codes "icmp-block-inversion"

@@ -1,10 +1,8 @@
 pub mod Active
 pub mod Calls
 pub mod Entries
-pub mod Equal
 pub mod Inversion
-pub mod Lists
-pub mod Refusals
 pub mod Settings
 pub mod Settled
+pub mod Told
 pub mod Zones

@@ -24,10 +24,10 @@ use Rattle.fw_told.specs.declared.told.SignalKind.{SignalKind}
 use Rattle.fw_told.specs.declared.told.SignalKind.TheVariants as signal
 use Rattle.fw_told.specs.declared.told.Value.{Value}
 use Rattle.fw_told.specs.declared.told.Value.TheVariants as value
-use Rattle.fw_zone_calls.specs.Equal.{same_port}
-use Rattle.fw_zone_calls.specs.Lists.{is_in, without}
-use Rattle.fw_zone_calls.specs.Refusals.{Answered, ◌>>=◌, refused, refused_as, result_and_then}
-use Rattle.fw_zone_calls.specs.declared.refusal.Refusal.{Refusal}
+use Rattle.fw_answer.specs.Equal.{same_port}
+use Rattle.fw_answer.specs.Lists.{is_in, without}
+use Rattle.fw_answer.specs.Refusals.{Answered, ◌>>=◌, refused, refused_as, result_and_then}
+use Rattle.fw_answer.specs.declared.refusal.Refusal.{Refusal}
 use Rattle.fw_zone_calls.specs.declared.setting.PlainSetting.{PlainSetting}
 use Rattle.fw_zone_calls.specs.declared.setting.PlainSetting.TheVariants as plain
 

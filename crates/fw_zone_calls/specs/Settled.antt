@@ -7,8 +7,8 @@ use Rattle.fw_zone.specs.declared.bindings.BindError.TheVariants as bind
 use Rattle.fw_zone.specs.declared.settings.AddError.{AddError}
 use Rattle.fw_zone.specs.declared.settings.AddError.TheVariants as add
 use Rattle.fw_zone.specs.declared.settings.NotEnabled.{NotEnabled}
-use Rattle.fw_zone_calls.specs.declared.edits.EditError.{EditError}
-use Rattle.fw_zone_calls.specs.declared.edits.EditError.TheVariants as edit
+use Rattle.fw_answer.specs.declared.edits.EditError.{EditError}
+use Rattle.fw_answer.specs.declared.edits.EditError.TheVariants as edit
 
 -- a setting that is added
 abbrev pub settled_add : {D : Type 0} → Result D AddError → Result D EditError

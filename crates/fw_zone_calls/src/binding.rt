@@ -3,14 +3,14 @@ ghost use Rattle.std.specs.Prelude.{◌≡◌, find, IfOk};
 ghost use Rattle.std.specs.Option.{option_copied};
 ghost use Rattle.fw_zone_calls.specs.Calls.{added_kind, binding_call, change_zone_call, entry_signal, moved_kind, removed_kind, zone_of_call};
 ghost use Rattle.fw_zone_calls.specs.Entries.{holder, lists};
-ghost use Rattle.fw_zone_calls.specs.Refusals.{Answers, Tells, told_of};
+ghost use Rattle.fw_answer.specs.Refusals.{Answers, Tells};
+ghost use Rattle.fw_zone_calls.specs.Told.{told_of};
 
-use super::answer::{Answer, told_of, value_answer, zone_values};
 use super::bound::{bind, move_to, unbind};
-use super::edits::EditError;
 use super::entry::{Entry, read_entry};
-use super::refusal::{Stop, refuse};
+use super::told::{told_of, zone_values};
 use super::zones::find_zone;
+use fw_answer::{Answer, EditError, Stop, refuse, value_answer};
 use fw_base::{Memory, Text};
 use fw_call::{BindingWord, Verb};
 use fw_model::{Config, Zone};

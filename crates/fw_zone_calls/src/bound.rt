@@ -3,12 +3,12 @@ ghost use Rattle.std.specs.Prelude.{◌≡◌, ℕ, ◌<◌, length, slice_get, 
 ghost use Rattle.fw_model.specs.declared.zone.Zone.{Zone};
 ghost use Rattle.fw_zone_calls.specs.Entries.{bound, moved, unbound};
 ghost use Rattle.fw_zone_calls.specs.Settled.{settled, settled_move};
-ghost use Rattle.fw_zone_calls.specs.Refusals.{Edits};
+ghost use Rattle.fw_answer.specs.Refusals.{Edits};
 ghost use Rattle.fw_zone_calls.specs.declared.entry.Entry.TheVariants as entries;
 
-use super::edits::EditError;
 use super::entry::Entry;
 use fw_addr::Iface;
+use fw_answer::EditError;
 use fw_base::Seq;
 use fw_model::{Binding, Code, Zone};
 use fw_zone::{

@@ -7,10 +7,10 @@ ghost use Rattle.fw_addr.specs.Interfaces.{interface};
 ghost use Rattle.fw_addr.specs.Nets.{net};
 ghost use Rattle.fw_words.specs.Keys.{after_key};
 ghost use Rattle.fw_zone_calls.specs.Entries.{address_source, entry_of, entry_text, interface_from, lists, set_source, source_from, source_text};
-ghost use Rattle.fw_zone_calls.specs.Refusals.{Reads};
+ghost use Rattle.fw_answer.specs.Refusals.{Reads};
 
-use super::refusal::{Stop, refuse};
 use fw_addr::{Iface, is_well_formed_name, read_iface, read_mac, read_net};
+use fw_answer::{Stop, refuse};
 use fw_base::{Memory, Text};
 use fw_call::{BindingKind, BindingWord};
 use fw_model::{Binding, Code, IpSet, Zone};

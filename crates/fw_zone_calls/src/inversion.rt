@@ -1,10 +1,11 @@
 //! Calls that invert a zone's ICMP blocks.
 ghost use Rattle.std.specs.Prelude.{◌≡◌, [], ◌∷◌, IfOk};
 ghost use Rattle.fw_zone_calls.specs.Inversion.{inversion_call};
-ghost use Rattle.fw_zone_calls.specs.Refusals.{Answers, told_of};
+ghost use Rattle.fw_answer.specs.Refusals.{Answers};
+ghost use Rattle.fw_zone_calls.specs.Told.{told_of};
 
-use super::answer::{Answer, told_of, value_answer, zone_values};
-use super::refusal::{Stop, refuse};
+use super::told::{told_of, zone_values};
+use fw_answer::{Answer, Stop, refuse, value_answer};
 use fw_base::Memory;
 use fw_call::Verb;
 use fw_model::{Code, Zone};

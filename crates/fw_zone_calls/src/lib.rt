@@ -5,13 +5,12 @@ mod active;
 mod answer;
 mod binding;
 mod bound;
-mod edits;
 mod entry;
 mod inversion;
-mod refusal;
 mod setting;
 mod settings;
 mod texts;
+mod told;
 mod zones;
 
-pub use answer::{Answer, answer_call};
+pub use answer::answer_call;

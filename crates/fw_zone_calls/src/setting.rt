@@ -1,11 +1,11 @@
 //! Settings as the arguments of calls name them.
 ghost use Rattle.std.specs.Prelude.{◌≡◌, ◌++◌, IfOk, OnOk};
 ghost use Rattle.fw_addr.specs.Protocols.{proto};
-ghost use Rattle.fw_zone_calls.specs.Refusals.{Reads};
+ghost use Rattle.fw_answer.specs.Refusals.{Reads};
 ghost use Rattle.fw_zone_calls.specs.Settings.{added_kind, arguments, port_of, port_text, protocol_from, removed_kind, setting_of, setting_text};
 
-use super::refusal::{Stop, refuse};
 use fw_addr::{Proto, icmp_numbers, read_port_proto, read_ports, read_proto};
+use fw_answer::{Stop, refuse};
 use fw_base::{Memory, Seq, Text};
 use fw_call::SettingWords;
 use fw_model::{Code, Port, Service};

@@ -1,13 +1,12 @@
 //! Calls that add, remove and ask for settings of a zone.
 ghost use Rattle.std.specs.Prelude.{◌≡◌, [], ◌∷◌, ◌++◌, IfOk};
-ghost use Rattle.fw_zone_calls.specs.Refusals.{Answers, Edits, Tells};
+ghost use Rattle.fw_answer.specs.Refusals.{Answers, Edits, Tells};
 ghost use Rattle.fw_zone_calls.specs.Settings.{added, added_signal, has, removed, removed_signal, setting_answered, setting_call, whole};
 ghost use Rattle.fw_zone_calls.specs.Settled.{settled_add, settled_remove};
 
-use super::answer::{Answer, told_of, value_answer, zone_values};
-use super::edits::EditError;
-use super::refusal::{Stop, refuse};
 use super::setting::{PlainSetting, read_setting};
+use super::told::{told_of, zone_values};
+use fw_answer::{Answer, EditError, Stop, refuse, value_answer};
 use fw_base::{Memory, Text};
 use fw_call::{SettingWords, Verb};
 use fw_model::{Code, Rules, Service, Setting, Zone};

@@ -2,10 +2,10 @@
 ghost use Rattle.std.specs.Prelude.{◌≡◌, ◌<◌, Some, Ok, length, position, slice_get, IfOk, MatchResult};
 ghost use Rattle.std.specs.Str.{bytes_eq};
 ghost use Rattle.fw_zone_calls.specs.Calls.{look_up};
-ghost use Rattle.fw_zone_calls.specs.Refusals.{Stops};
+ghost use Rattle.fw_answer.specs.Refusals.{Stops};
 ghost use Rattle.fw_zone_calls.specs.Zones.{meant};
 
-use super::refusal::{Stop, refuse};
+use fw_answer::{Stop, refuse};
 use fw_model::{Code, Config, Zone};
 use std::alloc::Global;
 

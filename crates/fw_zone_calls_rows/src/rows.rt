@@ -1,6 +1,6 @@
 use fw_addr::Family;
 use fw_base::{Memory, Seq, Text};
-use fw_call::read_call;
+use fw_call::{Call, Request, read_call};
 use fw_model::{Config, IpSet, SetKind};
 use fw_service::built_in_config;
 use fw_told::{push_reply, push_signal};
@@ -12,7 +12,10 @@ use std::test::Fail;
 /// The signals and the reply of a call, each as its line.
 fn told(alloc: Global, config: &mut Config, line: &str) -> Result<String, LineError> {
     let words = split_words(alloc, line)?;
-    let call = read_call(alloc, &mut Words::of(words.as_slice()))?;
+    let request = read_call(alloc, &mut Words::of(words.as_slice()))?;
+    let Request::Call(Call::Zone(call)) = request else {
+        return Err(LineError::BadLine);
+    };
     let answer = answer_call(alloc, config, &call)?;
     let mut out = String::new(alloc);
     for signal in answer.signals.as_slice() {

@@ -6,7 +6,7 @@ use Rattle.fw_zone_calls.proofs.InZone.{zone_answers}
 use Rattle.fw_zone_calls.specs.Inversion.{inversion_call}
 use Rattle.fw_zone_calls.specs.Calls.{look_up}
 use Rattle.fw_zone_calls.specs.Zones.{Found}
-use Rattle.fw_zone_calls.specs.declared.refusal.Refusal.{Refusal}
+use Rattle.fw_answer.specs.declared.refusal.Refusal.{Refusal}
 use Rattle.fw_zone_calls.proofs.answer.inversion_in.Goals as goal
 
 pub returns : goal.returns

@@ -5,10 +5,10 @@ use Rattle.fw_model.specs.declared.service.Service.{Service}
 use Rattle.fw_model.specs.declared.zone.Zone.{Zone}
 use Rattle.fw_zone_calls.proofs.InZone.{zone_answers}
 use Rattle.fw_zone_calls.specs.Calls.{look_up}
-use Rattle.fw_zone_calls.specs.Refusals.{Answers}
+use Rattle.fw_answer.specs.Refusals.{Answers}
 use Rattle.fw_zone_calls.specs.Settings.{setting_call}
 use Rattle.fw_zone_calls.specs.Zones.{Found}
-use Rattle.fw_zone_calls.specs.declared.refusal.Refusal.{Refusal}
+use Rattle.fw_answer.specs.declared.refusal.Refusal.{Refusal}
 use Rattle.fw_zone_calls.proofs.answer.setting_in.Goals as goal
 
 pub returns : goal.returns

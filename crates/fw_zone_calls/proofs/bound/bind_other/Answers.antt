@@ -1,14 +1,14 @@
 -- What the zones are after the edit, by its relations.
 use Rattle.std.proofs.Common.{◌≡◌, ℕ, Some, Result, Ok, OnErr, slice_get, sym, subst}
-use Rattle.fw_zone_calls.specs.Equal.{same_source}
+use Rattle.fw_answer.specs.Equal.{same_source}
 use Rattle.fw_model.specs.declared.code.Code.TheVariants as code
 use Rattle.fw_model.specs.declared.zone.Zone.{Zone}
 use Rattle.fw_zone.specs.Bindings.{sources_of, with_sources}
 use Rattle.fw_zone_calls.proofs.Bindings.{bind_edits, settled_err}
-use Rattle.fw_zone_calls.proofs.Equality.{sources}
+use Rattle.fw_answer.proofs.Equality.{sources}
 use Rattle.fw_zone_calls.specs.Entries.{bound}
-use Rattle.fw_zone_calls.specs.Refusals.{Edits}
-use Rattle.fw_zone_calls.specs.declared.edits.EditError.{EditError}
+use Rattle.fw_answer.specs.Refusals.{Edits}
+use Rattle.fw_answer.specs.declared.edits.EditError.{EditError}
 use Rattle.fw_zone_calls.specs.declared.entry.Entry.TheVariants as entries
 use Rattle.fw_zone_calls.proofs.bound.bind_other.Goals as goal
 

@@ -4,10 +4,10 @@ use Rattle.std.specs.Str.{bytes_eq}
 use Rattle.fw_model.specs.declared.zone.Zone.{Zone}
 use Rattle.fw_zone.specs.Bindings.{interfaces_of, with_interfaces}
 use Rattle.fw_zone_calls.proofs.Bindings.{move_edits, settled_move_err}
-use Rattle.fw_zone_calls.proofs.Equality.{texts}
+use Rattle.fw_answer.proofs.Equality.{texts}
 use Rattle.fw_zone_calls.specs.Entries.{moved}
-use Rattle.fw_zone_calls.specs.Refusals.{Edits}
-use Rattle.fw_zone_calls.specs.declared.edits.EditError.{EditError}
+use Rattle.fw_answer.specs.Refusals.{Edits}
+use Rattle.fw_answer.specs.declared.edits.EditError.{EditError}
 use Rattle.fw_zone_calls.specs.declared.entry.Entry.TheVariants as entries
 use Rattle.fw_zone_calls.proofs.bound.move_interface.Goals as goal
 

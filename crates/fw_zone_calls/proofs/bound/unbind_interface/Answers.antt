@@ -5,10 +5,10 @@ use Rattle.fw_model.specs.declared.code.Code.TheVariants as code
 use Rattle.fw_model.specs.declared.zone.Zone.{Zone}
 use Rattle.fw_zone.specs.Bindings.{interfaces_of, with_interfaces}
 use Rattle.fw_zone_calls.proofs.Bindings.{unbind_edits, settled_err}
-use Rattle.fw_zone_calls.proofs.Equality.{texts}
+use Rattle.fw_answer.proofs.Equality.{texts}
 use Rattle.fw_zone_calls.specs.Entries.{unbound}
-use Rattle.fw_zone_calls.specs.Refusals.{Edits}
-use Rattle.fw_zone_calls.specs.declared.edits.EditError.{EditError}
+use Rattle.fw_answer.specs.Refusals.{Edits}
+use Rattle.fw_answer.specs.declared.edits.EditError.{EditError}
 use Rattle.fw_zone_calls.specs.declared.entry.Entry.TheVariants as entries
 use Rattle.fw_zone_calls.proofs.bound.unbind_interface.Goals as goal
 

@@ -3,9 +3,9 @@ use Rattle.std.proofs.Common.{◌≡◌, ℕ, Option, None, Some, ap, sym, subst
 use Rattle.fw_addr.specs.Hardware.{mac}
 use Rattle.fw_addr.specs.Nets.{net}
 use Rattle.fw_addr.specs.Subnets.{Subnet}
-use Rattle.fw_zone_calls.proofs.Found.{none_from, some_from}
+use Rattle.fw_answer.proofs.Found.{none_from, some_from}
 use Rattle.fw_zone_calls.specs.Entries.{address_source}
-use Rattle.fw_zone_calls.specs.Refusals.{Reads}
+use Rattle.fw_answer.specs.Refusals.{Reads}
 use Rattle.fw_zone_calls.proofs.entry.read_address.Goals as goal
 
 pub returns-in-Ok : goal.returns-in-Ok

@@ -1,7 +1,7 @@
 -- No hardware address was found.
 use Rattle.std.proofs.Common.{◌≡◌, ℕ, Option, None, Some, Err, ap, sym, ◌∙◌}
 use Rattle.fw_addr.specs.Hardware.{mac}
-use Rattle.fw_zone_calls.proofs.Found.{none_from}
+use Rattle.fw_answer.proofs.Found.{none_from}
 use Rattle.fw_zone_calls.specs.Entries.{address_source}
 use Rattle.fw_zone_calls.proofs.entry.read_hardware.Goals as goal
 

@@ -1,7 +1,7 @@
 -- The protocol that was found, or the refusal.
 use Rattle.std.proofs.Common.{◌≡◌, ℕ, Option, None, Some, Result, Ok, Err, ap, sym, ◌∙◌}
 use Rattle.fw_addr.specs.Protocols.{proto}
-use Rattle.fw_zone_calls.proofs.Found.{none_from, some_from}
+use Rattle.fw_answer.proofs.Found.{none_from, some_from}
 use Rattle.fw_zone_calls.specs.Settings.{protocol_from}
 use Rattle.fw_zone_calls.proofs.setting.read_protocol.Goals as goal
 

@@ -1,9 +1,9 @@
 -- What the settings are after the edit.
 use Rattle.std.proofs.Common.{Result, sym, subst}
 use Rattle.fw_zone_calls.proofs.Plain.{add_edits}
-use Rattle.fw_zone_calls.specs.Refusals.{Edits}
+use Rattle.fw_answer.specs.Refusals.{Edits}
 use Rattle.fw_zone_calls.specs.Settings.{added}
-use Rattle.fw_zone_calls.specs.declared.edits.EditError.{EditError}
+use Rattle.fw_answer.specs.declared.edits.EditError.{EditError}
 use Rattle.fw_zone_calls.proofs.settings.add_to.Goals as goal
 
 pub returns : goal.returns

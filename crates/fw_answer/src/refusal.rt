@@ -1,6 +1,6 @@
 //! Calls that are refused.
 ghost use Rattle.std.specs.Prelude.{◌≡◌, IfOk};
-ghost use Rattle.fw_zone_calls.specs.declared.refusal.Stop.TheVariants.{Memory as OutOfMemory};
+ghost use Rattle.fw_answer.specs.declared.refusal.Stop.TheVariants.{Memory as OutOfMemory};
 
 use fw_base::{Memory, Text};
 use fw_model::Code;

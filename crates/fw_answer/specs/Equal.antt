@@ -7,6 +7,8 @@ use Rattle.fw_addr.specs.declared.addr.Addr.{Addr}
 use Rattle.fw_addr.specs.declared.addr.Addr.TheVariants.{V4, V6}
 use Rattle.fw_model.specs.declared.binding.Binding.{Binding}
 use Rattle.fw_model.specs.declared.binding.Binding.TheVariants.{Net, Mac, Set}
+use Rattle.fw_model.specs.declared.ipset.Item.{Item}
+use Rattle.fw_model.specs.declared.ipset.Item.TheVariants as item
 use Rattle.fw_model.specs.declared.port.Port.{Port}
 
 -- the same range of the same protocol
@@ -36,3 +38,10 @@ same_source (Mac one) (Set other) = false
 same_source (Set one) (Net other) = false
 same_source (Set one) (Mac other) = false
 same_source (Set one) (Set other) = bytes_eq one other
+
+-- the same entry of an ipset
+abbrev pub same_item : Item → Item → Bool
+same_item (item.Net one) (item.Net other) = same_net one other
+same_item (item.Net one) (item.Mac other) = false
+same_item (item.Mac one) (item.Net other) = false
+same_item (item.Mac one) (item.Mac other) = one == other

@@ -13,9 +13,11 @@ use Rattle.fw_addr.specs.declared.proto.PortProto.{PortProto}
 use Rattle.fw_addr.specs.declared.proto.PortProto.TheVariants.{Tcp, Udp, Sctp, Dccp}
 use Rattle.fw_model.specs.declared.binding.Binding.{Binding}
 use Rattle.fw_model.specs.declared.binding.Binding.TheVariants.{Net, Mac, Set}
+use Rattle.fw_model.specs.declared.ipset.Item.{Item}
+use Rattle.fw_model.specs.declared.ipset.Item.TheVariants as item
 use Rattle.fw_model.specs.declared.port.Port.{Port}
-use Rattle.fw_zone_calls.specs.Equal.{same_address, same_net, same_port, same_source}
-use Rattle.fw_zone_calls.proofs.Items.{IsEquality}
+use Rattle.fw_answer.specs.Equal.{same_address, same_item, same_net, same_port, same_source}
+use Rattle.fw_answer.proofs.Items.{IsEquality}
 
 pub texts : IsEquality bytes_eq
 texts = record { decides = bytes_eq-Decides }
@@ -88,3 +90,12 @@ sources_decided (Set one) (Set other) = Decides-like (bytes_eq one other) (λ (s
 
 pub sources : IsEquality same_source
 sources = record { decides = sources_decided }
+
+items_decided : (one other : Item) → Decides (same_item one other) (one ≡ other)
+items_decided (item.Net one) (item.Net other) = Decides-like (same_net one other) (λ (same : one ≡ other). ap item.Net same) (λ (same : item.Net one ≡ item.Net other). cc) (nets_decided one other)
+items_decided (item.Net one) (item.Mac other) = never (λ (same : item.Net one ≡ item.Mac other). cc)
+items_decided (item.Mac one) (item.Net other) = never (λ (same : item.Mac one ≡ item.Net other). cc)
+items_decided (item.Mac one) (item.Mac other) = Decides-like (one == other) (λ (same : one ≡ other). ap item.Mac same) (λ (same : item.Mac one ≡ item.Mac other). cc) (Decides-eqb one other)
+
+pub items : IsEquality same_item
+items = record { decides = items_decided }

@@ -6,22 +6,18 @@ use Rattle.fw_told.specs.declared.told.Reply.TheVariants as reply
 use Rattle.fw_told.specs.declared.told.Signal.{Signal}
 use Rattle.fw_told.specs.declared.told.Value.{Value}
 use Rattle.fw_told.specs.declared.told.Value.TheVariants as value
-use Rattle.fw_zone_calls.specs.declared.answer.Answer.{Answer}
-use Rattle.fw_zone_calls.specs.declared.edits.EditError.{EditError}
-use Rattle.fw_zone_calls.specs.declared.edits.EditError.TheVariants as edit
-use Rattle.fw_zone_calls.specs.declared.refusal.Refusal.{Refusal}
-use Rattle.fw_zone_calls.specs.declared.refusal.Stop.{Stop}
-use Rattle.fw_zone_calls.specs.declared.refusal.Stop.TheVariants as stop
+use Rattle.fw_answer.specs.declared.answer.Answer.{Answer}
+use Rattle.fw_answer.specs.declared.edits.EditError.{EditError}
+use Rattle.fw_answer.specs.declared.edits.EditError.TheVariants as edit
+use Rattle.fw_answer.specs.declared.refusal.Refusal.{Refusal}
+use Rattle.fw_answer.specs.declared.refusal.Stop.{Stop}
+use Rattle.fw_answer.specs.declared.refusal.Stop.TheVariants as stop
 
 -- what a call answers, and the settings afterwards
 pub record Answered (S : Type 0) : Type 0 where
   pub signals : List Signal
   pub reply : Reply
   pub after : S
-
--- one signal, and a reply with the zone's name
-abbrev pub told_of : (zone : List ℕ) → Signal → Answer
-told_of zone signal = record { signals = signal ∷ []; reply = reply.Ok (value.Text zone ∷ []) }
 
 -- no signal, and a reply with one value
 abbrev pub value_answer : Value → Answer
@@ -69,3 +65,12 @@ abbrev pub Edits : {S D : Type 0} → (old new : S) → Result D EditError → R
 Edits old new (Ok done) wanted = wanted ≡ Ok new
 Edits old new (Err (edit.Refused code)) wanted = (wanted ≡ Err code) × (new ≡ old)
 Edits old new (Err edit.Memory) wanted = new ≡ old
+
+-- no signal, one value in reply, and no change
+abbrev pub with_value : {S : Type 0} → S → Value → Answered S
+with_value settings value = record { signals = []; reply = reply.Ok (value ∷ []); after = settings }
+
+-- a refusal is a reply, and changes nothing
+abbrev pub replied : {S : Type 0} → S → Result (Answered S) Refusal → Answered S
+replied settings (Ok answered) = answered
+replied settings (Err refusal) = record { signals = []; reply = reply.Refused refusal.code refusal.subject; after = settings }

@@ -4,7 +4,7 @@ use Rattle.std.specs.Bool.{Decides}
 use Rattle.std.proofs.lemmas.Bool.{false_from_ne_true}
 use Rattle.std.proofs.lemmas.Bool.Decides.{Decides-or}
 use Rattle.fw_zone.specs.Lists.{IsIn, IsRemoved}
-use Rattle.fw_zone_calls.specs.Lists.{is_in, without}
+use Rattle.fw_answer.specs.Lists.{is_in, without}
 
 -- a test that says of two values whether they are one
 pub record IsEquality {A : Type 0} (same : A → A → Bool) : Type 0 where

@@ -1,0 +1,4 @@
+pub mod Equality
+pub mod Found
+pub mod Items
+pub mod Places
