@@ -16,8 +16,9 @@ use Rattle.fw_model.specs.declared.packet.Packet.{Packet}
 use Rattle.fw_model.specs.declared.service.Service.{Service}
 use Rattle.fw_model.specs.declared.setting.Setting.{Setting}
 use Rattle.fw_model.specs.declared.setting.Setting.TheVariants as setting
-use Rattle.fw_verdict.specs.Hits.{hits, hits_numbers, is_icmpv4, is_icmpv6, is_ipv4, is_type}
-use Rattle.fw_verdict.specs.Services.{service_hits}
+use Rattle.fw_hits.specs.Hits.{hits}
+use Rattle.fw_hits.specs.Plain.{hits_numbers, is_icmpv4, is_icmpv6, is_ipv4, is_type}
+use Rattle.fw_hits.specs.Services.{service_hits}
 use Rattle.lower_match.proofs.Members.{places_hold}
 use Rattle.lower_match.proofs.Reached.{Tested, reached_hits}
 use Rattle.lower_match.specs.Forms.{alone, icmp_alternatives, place_alternatives, typed}

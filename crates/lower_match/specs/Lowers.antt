@@ -10,8 +10,8 @@ use Rattle.fw_model.specs.declared.packet.Packet.{Packet}
 use Rattle.fw_model.specs.declared.service.Service.{Service}
 use Rattle.fw_model.specs.declared.setting.Setting.{Setting}
 use Rattle.fw_model.specs.declared.setting.Setting.TheVariants as setting
-use Rattle.fw_verdict.specs.Hits.{hits}
-use Rattle.fw_verdict.specs.Sources.{set_holds}
+use Rattle.fw_hits.specs.Hits.{hits}
+use Rattle.fw_hits.specs.Sources.{set_holds}
 use Rattle.fw_zone.specs.Lists.{IsIn}
 use Rattle.nf_eval.specs.Sets.{holds_address}
 use Rattle.nf_eval.specs.Tests.{is_from_set, match_holds}
