@@ -87,7 +87,7 @@ typed_v6 sets packet None is_packet = no_type (is_icmpv6 packet)
 typed_v6 sets packet (Some number) is_packet =
     ap (λ (first : Bool). first && packet.icmp_type == number) (only_v6 packet is_packet) ∙ alone_holds sets packet (test.Icmp V6 number)
 
-numbers_hold : (sets : List NfSet) (packet : Packet) (numbers : Option IcmpNumbers) → IsPacket packet → hits_numbers numbers packet ≡ one_holds sets packet (icmp_alternatives numbers)
+pub numbers_hold : (sets : List NfSet) (packet : Packet) (numbers : Option IcmpNumbers) → IsPacket packet → hits_numbers numbers packet ≡ one_holds sets packet (icmp_alternatives numbers)
 numbers_hold sets packet None is_packet = refl
 numbers_hold sets packet (Some numbers) is_packet =
     ap (λ (first : Bool). first || (is_icmpv6 packet && is_type numbers.v6 packet)) (typed_v4 sets packet numbers.v4 is_packet)

@@ -1,8 +1,16 @@
 -- A rich rule is about the packets of which one of its alternatives holds.
-use Rattle.std.proofs.Common.{◌≡◌, ◌∙◌, Bool, true, false, ◌&&◌, List, [], ◌∷◌, ◌++◌, map, Option, None, Some, refl, sym, ap}
+use Rattle.std.proofs.Common.{◌≡◌, ◌∙◌, ℕ, Bool, true, false, ◌&&◌, List, [], ◌∷◌, ◌++◌, map, Option, None, Some, refl, sym, ap}
 use Rattle.std.proofs.lemmas.List.Folds.{list_all-append}
 use Rattle.std.specs.List.{list_all, list_any}
+use Rattle.fw_addr.specs.Icmp.{icmp}
+use Rattle.fw_addr.specs.declared.packet.Family.{Family}
 use Rattle.fw_hits.specs.Hits.{hits}
+use Rattle.fw_hits.specs.Plain.{hits_icmp, hits_numbers}
+use Rattle.fw_hits.specs.Services.{service_hits}
+use Rattle.fw_model.specs.declared.rich.Element.{Element}
+use Rattle.fw_model.specs.declared.rich.Element.TheVariants as element
+use Rattle.lower_match.specs.Forms.{icmp_alternatives}
+use Rattle.lower_match.proofs.Lowered.{numbers_hold}
 use Rattle.fw_hits.specs.Rich.{is_at, is_of_element, is_of_rule}
 use Rattle.fw_model.specs.Packets.{IsPacket}
 use Rattle.fw_model.specs.declared.config.Config.{Config}
@@ -29,12 +37,12 @@ behind_holds sets packet front alternatives =
     ∙ any_under (list_all (match_holds sets packet) front) (list_all (match_holds sets packet)) alternatives
 
 -- the parts of a rule, by what they ask
-parts : (config : Config) (ipsets : List IpSet) (rules : Ruleset) (packet : Packet) (rule : Rich) (asked : Option (List Match)) (element : Bool)
+parts : (config : Config) (ipsets : List IpSet) (rules : Ruleset) (packet : Packet) (rule : Rich) (asked : Option (List Match)) (of_element : Bool)
     → config.ipsets ≡ ipsets
     → (is_of_rule rule.family packet && is_at ipsets packet.src packet.mac rule.source && is_at ipsets packet.dst None rule.dest) ≡ all_hold rules.sets packet asked
-    → is_of_element config rule.family packet rule.element ≡ element
-    → hits config (setting.Rich rule) packet ≡ (all_hold rules.sets packet asked && element)
-parts config ipsets rules packet rule asked element same sides is =
+    → is_of_element config rule.family packet rule.element ≡ of_element
+    → hits config (setting.Rich rule) packet ≡ (all_hold rules.sets packet asked && of_element)
+parts config ipsets rules packet rule asked of_element same sides is =
     ap (λ (known : List IpSet). (is_of_rule rule.family packet && is_at known packet.src packet.mac rule.source && is_at known packet.dst None rule.dest) && is_of_element config rule.family packet rule.element) same
     ∙ ap (λ (front : Bool). front && is_of_element config rule.family packet rule.element) sides
     ∙ ap (λ (behind : Bool). all_hold rules.sets packet asked && behind) is
@@ -55,3 +63,23 @@ lowers_rich services ipsets rule front elements alternatives asks lowers made co
     (sides_hold ipsets rules.sets stand packet rule ∙ ap (all_hold rules.sets packet) asks)
     (lowers config rules.sets packet same is_packet)
     ∙ sym (ap (one_holds rules.sets packet) made ∙ behind_holds rules.sets packet front elements)
+
+pub service_element : (services : List Service) (family : Option Family) (told : Option Element) (name text : List ℕ) (alternatives : List (List Match))
+    → told ≡ Some (element.Service name) → text ≡ name
+    → ((sets : List NfSet) (packet : Packet) → service_hits services text packet ≡ one_holds sets packet alternatives)
+    → LowersElement services family told alternatives
+service_element services family told name text alternatives is same_text holds config sets packet same is_packet =
+    ap (is_of_element config family packet) is
+    ∙ ap (λ (known : List Service). service_hits known name packet) same
+    ∙ ap (λ (asked : List ℕ). service_hits services asked packet) (sym same_text)
+    ∙ holds sets packet
+
+pub icmp_element : (services : List Service) (family : Option Family) (told : Option Element) (name text : List ℕ) (alternatives : List (List Match))
+    → ((config : Config) (packet : Packet) → is_of_element config family packet told ≡ hits_icmp name packet) → text ≡ name
+    → alternatives ≡ icmp_alternatives (icmp text)
+    → LowersElement services family told alternatives
+icmp_element services family told name text alternatives is same_text made config sets packet same is_packet =
+    is config packet
+    ∙ ap (λ (asked : List ℕ). hits_numbers (icmp asked) packet) (sym same_text)
+    ∙ numbers_hold sets packet (icmp text) is_packet
+    ∙ ap (one_holds sets packet) (sym made)

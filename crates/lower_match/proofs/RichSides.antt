@@ -1,5 +1,5 @@
 -- What a rule's family, source and destination ask is what the manual asks of a packet.
-use Rattle.std.proofs.Common.{◌≡◌, ◌∙◌, ◌==◌, ℕ, Bool, true, false, not, ◌&&◌, ◌||◌, List, [], ◌∷◌, ◌++◌, Option, None, Some, refl, sym, ap, subst, inl, inr, arith}
+use Rattle.std.proofs.Common.{◌≡◌, ◌∙◌, ◌==◌, ℕ, Bool, true, false, not, ◌&&◌, ◌||◌, List, [], ◌∷◌, ◌++◌, Option, None, Some, refl, sym, ap, subst, inl, inr, arith, if◌then◌else◌}
 use Rattle.std.proofs.lemmas.Grind.{common_steps}
 use Rattle.std.proofs.lemmas.List.Folds.{list_all-append}
 use Rattle.std.proofs.lemmas.Slice.Eq.{bytes_eq-Decides}
@@ -78,8 +78,10 @@ joined false other true is rest = rest
 
 first_decides : (one other whole : Bool) → one ≡ whole → (other || whole) ≡ whole → (one || other) ≡ one
 first_decides true other whole is all = refl
-first_decides false other true is all = cc
-first_decides false false whole is all = refl
+first_decides false true true is all = cc
+first_decides false true false is all = cc
+first_decides false false true is all = cc
+first_decides false false false is all = refl
 
 -- What an ipset holds is what the set of its name holds; by its kind one of the two.
 module _ (sets : List NfSet) (name : List ℕ) where
@@ -94,7 +96,7 @@ module _ (sets : List NfSet) (name : List ℕ) where
       subst (λ (other : List ℕ). (address : Addr) (mac : Option ℕ) → set_holds set address mac ≡ (holds_address sets (set_name other) address || is_from_set sets (set_name other) mac))
       ((bytes_eq-Decides set.name name).0 same) stands
 
-  found : Addr → Option ℕ → Option IpSet → Bool
+  abbrev found : Addr → Option ℕ → Option IpSet → Bool
   found address mac None = false
   found address mac (Some set) = set_holds set address mac
 
