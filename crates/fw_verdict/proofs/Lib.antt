@@ -1,6 +1,5 @@
-pub mod Entries
-pub mod Places
-pub mod Reached
+pub mod RichLists
+pub mod RichRules
+pub mod Sequences
 pub mod Walks
-pub mod Ways
 pub mod Zones

@@ -1,5 +1,8 @@
 -- What the settings of a zone decide, part by part.
-use Rattle.std.proofs.Common.{◌≡◌, ◌∙◌, ℕ, List, [], ◌++◌, Bool, true, false, ◌&&◌, ◌||◌, not, Option, None, Some, refl, ap}
+use Rattle.std.proofs.Common.{◌≡◌, ℕ, List, [], ◌++◌, Bool, true, false, ◌&&◌, ◌||◌, not, Option, None, Some, refl, sym, ap, subst, append-nil}
+use Rattle.std.specs.Prelude.{is_some}
+use Rattle.fw_addr.specs.declared.log.LogLine.{LogLine}
+use Rattle.fw_verdict.specs.Given.{Walks}
 use Rattle.std.specs.Prelude.{if◌then◌else◌, ◌==◌}
 use Rattle.std.specs.List.{list_any}
 use Rattle.std.specs.Option.{option_or}
@@ -10,11 +13,11 @@ use Rattle.fw_model.specs.declared.outcome.Verdict.TheVariants as verdict
 use Rattle.fw_model.specs.declared.packet.Packet.{Packet}
 use Rattle.fw_model.specs.declared.rules.Rules.{Rules}
 use Rattle.fw_model.specs.declared.setting.Setting.TheVariants as setting
-use Rattle.fw_model.specs.declared.zone.Zone.{Zone}
-use Rattle.fw_verdict.specs.Hits.{hits, hits_icmp, is_icmp}
-use Rattle.fw_verdict.specs.Items.{allow_items, all_accepted, deny_items, icmp_items, items}
-use Rattle.fw_verdict.specs.Services.{source_port_matches}
-use Rattle.fw_verdict.specs.Walk.{nothing, or_then, silently, walk}
+use Rattle.fw_hits.specs.Hits.{hits}
+use Rattle.fw_hits.specs.Plain.{hits_icmp, is_icmp}
+use Rattle.fw_verdict.specs.Items.{all_accepted, icmp_denied, icmp_items, listed_items}
+use Rattle.fw_hits.specs.Services.{source_port_matches}
+use Rattle.fw_verdict.specs.Walk.{Walked, nothing, or_then, silently, walk}
 use Rattle.fw_verdict.specs.Way.{reject}
 use Rattle.fw_verdict.proofs.Walks.{walk_both, walk_either, walk_same}
 
@@ -29,7 +32,7 @@ one true chosen = refl
 one false chosen = refl
 
 pub denied : (config : Config) (rules : Rules) (inversion : Bool) (packet : Packet)
-    → walk (deny_items config rules inversion) packet ≡ silently (if blocks rules.icmp_blocks inversion packet then Some reject else None)
+    → walk (icmp_denied config rules inversion) packet ≡ silently (if blocks rules.icmp_blocks inversion packet then Some reject else None)
 denied config rules true packet = one (blocks rules.icmp_blocks true packet) reject
 denied config rules false packet = walk_same (λ name. hits config (setting.IcmpBlock name)) reject rules.icmp_blocks packet
 
@@ -47,7 +50,7 @@ lists config rules packet =
     || list_any (λ port. source_port_matches port packet) rules.source_ports
 
 pub allowed : (config : Config) (rules : Rules) (inversion : Bool) (packet : Packet)
-    → walk (allow_items config rules inversion) packet ≡ silently (if lists config rules packet || (inversion && list_any (λ name. hits_icmp name packet) rules.icmp_blocks) then Some verdict.Accept else None)
+    → walk (listed_items config rules inversion) packet ≡ silently (if lists config rules packet || (inversion && list_any (λ name. hits_icmp name packet) rules.icmp_blocks) then Some verdict.Accept else None)
 allowed config rules inversion packet =
     let services = all_accepted config setting.Service rules.services in
     let ports = all_accepted config setting.Port rules.ports in
@@ -63,17 +66,12 @@ allowed config rules inversion packet =
     (walk_same (λ port. hits config (setting.SourcePort port)) verdict.Accept rules.source_ports packet))
     (icmp_allowed config rules inversion packet)
 
-or_nothing : (decided : Option Verdict) → option_or decided None ≡ decided
-or_nothing None = refl
-or_nothing (Some chosen) = refl
+-- what is decided silently leaves the lines as they are
+pub keeps_lines : (walked : Walked) (logs : List LogLine) (decided : Option Verdict) → walked ≡ silently decided → Walks walked logs logs decided
+keeps_lines walked logs decided is =
+    subst (λ (one : Walked). Walks one logs logs decided) (sym is) (record { decides = refl; logs = sym (append-nil logs) })
 
--- what is denied, and then what is let in
-pub walked : (config : Config) (zone : Zone) (packet : Packet) (first second : Option Verdict)
-    → walk (deny_items config zone.rules zone.inversion) packet ≡ silently first
-    → walk (allow_items config zone.rules zone.inversion) packet ≡ silently second
-    → walk (items config zone) packet ≡ silently (option_or first second)
-walked config zone packet first second denies allows =
-    let deny = deny_items config zone.rules zone.inversion in
-    let allow = allow_items config zone.rules zone.inversion in
-    walk_both (deny ++ allow) [] packet _ None (walk_both deny allow packet first second denies allows) refl
-    ∙ ap silently (or_nothing (option_or first second))
+-- a decision that isn't there
+pub none : (walked : Walked) (first second : List LogLine) (decided : Option Verdict) → is_some decided ≡ false → Walks walked first second decided → Walks walked first second None
+none walked first second None is walks = walks
+none walked first second (Some chosen) is walks = cc

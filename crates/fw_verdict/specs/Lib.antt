@@ -1,9 +1,5 @@
-pub mod Bindings
-pub mod Founds
-pub mod Hits
+pub mod Given
 pub mod Items
-pub mod Members
-pub mod Services
-pub mod Sources
+pub mod Rich
 pub mod Walk
 pub mod Way

@@ -26,8 +26,8 @@ use Rattle.fw_model.specs.declared.runtime.Runtime.{Runtime}
 use Rattle.fw_model.specs.declared.zone.Zone.{Zone}
 use Rattle.fw_model.specs.declared.zone.ZoneTarget.{ZoneTarget}
 use Rattle.fw_model.specs.declared.zone.ZoneTarget.TheVariants as target
-use Rattle.fw_verdict.specs.Bindings.{egress, ingress}
-use Rattle.fw_verdict.specs.Hits.{is_icmp}
+use Rattle.fw_hits.specs.Bindings.{egress, ingress}
+use Rattle.fw_hits.specs.Plain.{is_icmp}
 use Rattle.fw_verdict.specs.Items.{accepted, items}
 use Rattle.fw_verdict.specs.Walk.{Item, Walked, in_turn, nothing, silently, walk}
 use Rattle.fw_verdict.specs.Walk.Effect.{decide}
@@ -120,7 +120,7 @@ policies_behind config packet from to = nothing
 -- 5. To the host. The settings of the zone that the packet comes from.
 abbrev pub zone_walk : Config → Packet → Option Zone → Walked
 zone_walk config packet None = nothing
-zone_walk config packet (Some zone) = walk (items config zone) packet
+zone_walk config packet (Some zone) = walk (items config zone.rules zone.inversion) packet
 
 -- The zone's target (firewalld.zone(5), `target`), for what nothing else decided: under `default` ICMP is accepted, and all
 -- others are rejected.

@@ -1,12 +1,9 @@
-//! What becomes of a packet under the settings in force: the walk of firewalld.zone(5) over zones.
+//! What becomes of a packet under the settings in force: the walk of firewalld.zone(5) over zones, with the rules of
+//! firewalld.richlanguage(5).
 #![tactic(auto)]
 
-mod bindings;
-mod hits;
-mod interfaces;
 mod items;
-mod services;
-mod sources;
+mod rich;
 mod way;
 
 pub use way::verdict;

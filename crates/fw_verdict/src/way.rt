@@ -1,18 +1,18 @@
 //! The way of a packet through the firewall.
-ghost use Rattle.std.specs.Prelude.{◌≡◌, codes, IfOk, unwrap_or};
+ghost use Rattle.std.specs.Prelude.{◌≡◌, codes, IfOk, Some, unwrap_or};
 ghost use Rattle.std.specs.List.{find};
 ghost use Rattle.std.specs.Option.{option_copied};
 ghost use Rattle.fw_addr.specs.Subnets.{in_net};
 ghost use Rattle.fw_model.specs.Packets.{came_by};
 ghost use Rattle.fw_model.specs.declared.packet.Via.TheVariants as via;
+ghost use Rattle.fw_verdict.specs.Given.{Walks};
 ghost use Rattle.fw_verdict.specs.Walk.{silently, walk};
 ghost use Rattle.fw_verdict.specs.Way.{decided_as, early_items, filtered, forwarded, is_invalid, is_known, panicked, route, stays_within, target_forwarded, target_to_host, to_host, way};
 
-use crate::bindings::{egress, ingress};
-use crate::hits::is_icmp;
-use crate::items::{REJECT, zone_walk};
-use fw_addr::{CtState, Net};
+use crate::items::{REJECT, walk_rules};
+use fw_addr::{CtState, LogLine, Net};
 use fw_base::{Memory, Seq};
+use fw_hits::{egress, ingress, is_icmp};
 use fw_model::{Config, Origin, Outcome, Packet, Runtime, Verdict, Via, Zone, ZoneTarget};
 use std::alloc::Global;
 
@@ -23,17 +23,18 @@ use std::alloc::Global;
 pub fn verdict(alloc: Global, runtime: &Runtime, packet: &Packet) -> Result<Outcome, Memory>
     ensures { IfOk result (λ outcome. outcome ≡ way runtime.now packet.now) }
 {
+    let mut logs = Seq::new(alloc);
     let verdict = if runtime.panic {
         Verdict::Drop
     } else {
-        filtered(alloc, &runtime.config, packet)?
+        filtered(alloc, &runtime.config, packet, &mut logs)?
     };
     Ok(Outcome {
         verdict,
         mark: packet.mark,
         dnat: None,
         masquerade: false,
-        logs: Seq::new(alloc),
+        logs,
     })
 }
 
@@ -58,15 +59,21 @@ fn route(packet: &Packet) -> Option<&Via>
     }
 }
 
-fn filtered(alloc: Global, config: &Config, packet: &Packet) -> Result<Verdict, Memory>
-    ensures { IfOk result (λ decided. filtered config.now packet.now packet.now.origin (route packet.now) ≡ decided_as decided) }
+/// What is decided of a packet. The lines that are logged come behind those that are there.
+fn filtered(
+    alloc: Global,
+    config: &Config,
+    packet: &Packet,
+    logs: &mut Seq<LogLine>,
+) -> Result<Verdict, Memory>
+    ensures { IfOk result (λ verdict. Walks (filtered config.now packet.now packet.now.origin (route packet.now)) logs.old logs.new (Some verdict)) }
 {
     match &packet.origin {
         Origin::Host => Ok(Verdict::Accept),
         Origin::Link(_) => match route(packet) {
             Some(Via::Link(name)) => Ok(forwarded(config, packet, name.as_str())),
-            Some(Via::Local) => to_host(alloc, config, packet),
-            None => to_host(alloc, config, packet),
+            Some(Via::Local) => to_host(alloc, config, packet, logs),
+            None => to_host(alloc, config, packet, logs),
         },
     }
 }
@@ -129,8 +136,13 @@ fn target_to_host(target: ZoneTarget, packet: &Packet) -> Verdict
     }
 }
 
-fn to_host(alloc: Global, config: &Config, packet: &Packet) -> Result<Verdict, Memory>
-    ensures { IfOk result (λ decided. to_host config.now packet.now ≡ decided_as decided) }
+fn to_host(
+    alloc: Global,
+    config: &Config,
+    packet: &Packet,
+    logs: &mut Seq<LogLine>,
+) -> Result<Verdict, Memory>
+    ensures { IfOk result (λ verdict. Walks (to_host config.now packet.now) logs.old logs.new (Some verdict)) }
 {
     if let Some(verdict) = early(packet) {
         return Ok(verdict);
@@ -138,7 +150,7 @@ fn to_host(alloc: Global, config: &Config, packet: &Packet) -> Result<Verdict, M
     let Some(zone) = ingress(config, packet) else {
         return Ok(Verdict::Drop);
     };
-    match zone_walk(alloc, config, zone, packet)? {
+    match walk_rules(alloc, config, &zone.rules, zone.inversion, packet, logs)? {
         Some(verdict) => Ok(verdict),
         None => Ok(target_to_host(zone.target, packet)),
     }

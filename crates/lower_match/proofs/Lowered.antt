@@ -16,8 +16,9 @@ use Rattle.fw_model.specs.declared.packet.Packet.{Packet}
 use Rattle.fw_model.specs.declared.service.Service.{Service}
 use Rattle.fw_model.specs.declared.setting.Setting.{Setting}
 use Rattle.fw_model.specs.declared.setting.Setting.TheVariants as setting
-use Rattle.fw_verdict.specs.Hits.{hits, hits_numbers, is_icmpv4, is_icmpv6, is_ipv4, is_type}
-use Rattle.fw_verdict.specs.Services.{service_hits}
+use Rattle.fw_hits.specs.Hits.{hits}
+use Rattle.fw_hits.specs.Plain.{hits_numbers, is_icmpv4, is_icmpv6, is_ipv4, is_type}
+use Rattle.fw_hits.specs.Services.{service_hits}
 use Rattle.lower_match.proofs.Members.{places_hold}
 use Rattle.lower_match.proofs.Reached.{Tested, reached_hits}
 use Rattle.lower_match.specs.Forms.{alone, icmp_alternatives, place_alternatives, typed}
@@ -86,7 +87,7 @@ typed_v6 sets packet None is_packet = no_type (is_icmpv6 packet)
 typed_v6 sets packet (Some number) is_packet =
     ap (λ (first : Bool). first && packet.icmp_type == number) (only_v6 packet is_packet) ∙ alone_holds sets packet (test.Icmp V6 number)
 
-numbers_hold : (sets : List NfSet) (packet : Packet) (numbers : Option IcmpNumbers) → IsPacket packet → hits_numbers numbers packet ≡ one_holds sets packet (icmp_alternatives numbers)
+pub numbers_hold : (sets : List NfSet) (packet : Packet) (numbers : Option IcmpNumbers) → IsPacket packet → hits_numbers numbers packet ≡ one_holds sets packet (icmp_alternatives numbers)
 numbers_hold sets packet None is_packet = refl
 numbers_hold sets packet (Some numbers) is_packet =
     ap (λ (first : Bool). first || (is_icmpv6 packet && is_type numbers.v6 packet)) (typed_v4 sets packet numbers.v4 is_packet)

@@ -10,8 +10,8 @@ use Rattle.fw_addr.specs.declared.packet.Family.TheVariants as families
 use Rattle.fw_model.specs.Packets.{is_v4}
 use Rattle.fw_model.specs.declared.packet.Packet.{Packet}
 use Rattle.fw_model.specs.declared.service.Service.{Service}
-use Rattle.fw_verdict.specs.Members.{hits_among, is_hit}
-use Rattle.fw_verdict.specs.Services.{allows_destination, goes_anywhere, holds, member_hits}
+use Rattle.fw_hits.specs.Members.{hits_among, is_hit}
+use Rattle.fw_hits.specs.Services.{allows_destination, goes_anywhere, holds, member_hits}
 use Rattle.lower_match.proofs.Tests.{and_true, any_flat_map, any_map, any_same, any_under, any_with, distributed, or_false}
 use Rattle.lower_match.specs.Forms.{alternatives_at, at_end, at_ends, destination, each_at, ends, member_alternatives, place_alternatives, port_test, source_port_test}
 use Rattle.lower_match.specs.Lowers.{one_holds}

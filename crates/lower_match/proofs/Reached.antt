@@ -5,8 +5,8 @@ use Rattle.std.specs.List.{list_any}
 use Rattle.fw_closure.specs.Includes.{AreReached, Reaches, reaches}
 use Rattle.fw_model.specs.declared.packet.Packet.{Packet}
 use Rattle.fw_model.specs.declared.service.Service.{Service}
-use Rattle.fw_verdict.specs.Members.{hits_among, is_hit}
-use Rattle.fw_verdict.specs.Services.{member_hits, service_hits}
+use Rattle.fw_hits.specs.Members.{hits_among, is_hit}
+use Rattle.fw_hits.specs.Services.{member_hits, service_hits}
 use Rattle.fw_zone.specs.Lists.{IsIn}
 
 any_in : {A : Type 0} (test : A → Bool) (xs : List A) → list_any test xs ≡ true → (item : A) × IsIn item xs × (test item ≡ true)

@@ -7,7 +7,7 @@ use Rattle.fw_addr.specs.declared.packet.Family.{Family}
 use Rattle.fw_addr.specs.declared.packet.Family.TheVariants.{V4, V6}
 use Rattle.fw_model.specs.declared.port.Port.{Port}
 use Rattle.fw_model.specs.declared.service.Service.{Service}
-use Rattle.fw_verdict.specs.Services.{goes_anywhere}
+use Rattle.fw_hits.specs.Services.{goes_anywhere}
 use Rattle.nf_eval.specs.Tests.{is_same_family}
 use Rattle.nf_rules.specs.declared.rule.Match.{Match}
 use Rattle.nf_rules.specs.declared.test.Test.{Test}

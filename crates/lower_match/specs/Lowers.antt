@@ -1,6 +1,6 @@
 -- What it means that a setting of firewalld is told in matches of nft(8): the setting is about the packets of which the
 -- matches hold. The manuals of firewalld (`hits`) stand on one side, the evaluation of nft(8) (`match_holds`) on the other.
-use Rattle.std.specs.Prelude.{◌≡◌, ℕ, List, ◌++◌, codes, Bool, true, false, ◌||◌, Option}
+use Rattle.std.specs.Prelude.{◌≡◌, ℕ, List, ◌++◌, codes, Bool, ◌||◌, Option}
 use Rattle.std.specs.List.{list_all, list_any}
 use Rattle.fw_addr.specs.declared.addr.Addr.{Addr}
 use Rattle.fw_model.specs.Packets.{IsPacket}
@@ -9,9 +9,8 @@ use Rattle.fw_model.specs.declared.ipset.IpSet.{IpSet}
 use Rattle.fw_model.specs.declared.packet.Packet.{Packet}
 use Rattle.fw_model.specs.declared.service.Service.{Service}
 use Rattle.fw_model.specs.declared.setting.Setting.{Setting}
-use Rattle.fw_model.specs.declared.setting.Setting.TheVariants as setting
-use Rattle.fw_verdict.specs.Hits.{hits}
-use Rattle.fw_verdict.specs.Sources.{set_holds}
+use Rattle.fw_hits.specs.Hits.{hits}
+use Rattle.fw_hits.specs.Sources.{set_holds}
 use Rattle.fw_zone.specs.Lists.{IsIn}
 use Rattle.nf_eval.specs.Sets.{holds_address}
 use Rattle.nf_eval.specs.Tests.{is_from_set, match_holds}
@@ -47,14 +46,3 @@ Lowers services ipsets told alternatives =
     → EachStands ipsets rules.sets
     → IsPacket packet
     → hits config told packet ≡ one_holds rules.sets packet alternatives
-
--- any setting but a rich rule
-abbrev pub is_plain : Setting → Bool
-is_plain (setting.Service name) = true
-is_plain (setting.Port port) = true
-is_plain (setting.Protocol protocol) = true
-is_plain (setting.SourcePort port) = true
-is_plain (setting.IcmpBlock name) = true
-is_plain setting.Masquerade = true
-is_plain (setting.Forward forward) = true
-is_plain (setting.Rich rule) = false

@@ -3,7 +3,9 @@
 
 mod alternatives;
 mod icmp;
+mod rich;
 mod service;
 mod setting;
+mod sides;
 
 pub use setting::matches_of;

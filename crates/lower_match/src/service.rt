@@ -2,7 +2,7 @@
 ghost use Rattle.std.specs.Prelude.{◌≡◌, ◌++◌, List, IfOk, OnOk};
 ghost use Rattle.std.specs.List.{flat_map};
 ghost use Rattle.fw_model.specs.declared.packet.Packet.{Packet};
-ghost use Rattle.fw_verdict.specs.Services.{service_hits};
+ghost use Rattle.fw_hits.specs.Services.{service_hits};
 ghost use Rattle.lower_match.specs.Forms.{at_end, at_ends, destination, each_at, ends, member_alternatives, place_alternatives, port_test, source_port_test};
 ghost use Rattle.lower_match.specs.Lowers.{one_holds};
 ghost use Rattle.nf_rules.specs.declared.set.NfSet.{NfSet};

@@ -1,9 +1,10 @@
 //! The alternatives of a setting.
-ghost use Rattle.std.specs.Prelude.{IfOk, IsTrue};
-ghost use Rattle.lower_match.specs.Lowers.{Lowers, is_plain};
+ghost use Rattle.std.specs.Prelude.{IfOk};
+ghost use Rattle.lower_match.specs.Lowers.{Lowers};
 
 use crate::alternatives::{alone, both, port_test, source_port_test};
 use crate::icmp::icmp_matches;
+use crate::rich::rich_matches;
 use crate::service::service_matches;
 use fw_addr::Family;
 use fw_base::{Memory, Seq};
@@ -14,8 +15,6 @@ use std::alloc::Global;
 /// The alternatives of a setting, with the services and ipsets of its configuration: it is about a packet exactly where all
 /// matches of one alternative hold, in every ruleset in which each ipset stands as the set `ipset_` and its name.
 ///
-/// The setting is no rich rule: those aren't in force yet.
-///
 /// Refuses for want of memory alone.
 pub fn matches_of(
     alloc: Global,
@@ -23,7 +22,6 @@ pub fn matches_of(
     services: &[Service],
     ipsets: &[IpSet],
 ) -> Result<Seq<Seq<Match>>, Memory>
-    requires { IsTrue (is_plain setting.now) }
     ensures { IfOk result (λ alternatives. Lowers services.now ipsets.now setting.now alternatives) }
 {
     match setting {
@@ -38,6 +36,6 @@ pub fn matches_of(
             Test::Family(Family::V4),
             port_test(&forward.port),
         ),
-        Setting::Rich(_) => unreachable!(),
+        Setting::Rich(rule) => rich_matches(alloc, rule, services, ipsets),
     }
 }

@@ -1,16 +1,22 @@
-use Rattle.std.proofs.Common.{◌∙◌, Some, None, sym, ap}
-use Rattle.std.specs.Prelude.{if◌then◌else◌, Bool}
-use Rattle.fw_model.specs.declared.outcome.Verdict.TheVariants.{Accept}
-use Rattle.fw_verdict.specs.Walk.{silently}
-use Rattle.fw_verdict.proofs.Zones.{allowed}
+use Rattle.std.proofs.Common.{sym}
+use Rattle.std.proofs.lemmas.Result.{IfOk-weaker}
+use Rattle.fw_verdict.specs.Items.{listed_items}
+use Rattle.fw_verdict.specs.Rich.{rich_items}
+use Rattle.fw_verdict.specs.declared.rich.Part.TheVariants.{Allow}
+use Rattle.fw_verdict.proofs.Sequences.{ends, goes_on}
+use Rattle.fw_verdict.proofs.Zones.{keeps_lines, none}
 use Rattle.fw_verdict.proofs.items.allow.Goals as goal
 
-pub returns-then-passes : goal.returns-then-passes
-returns-then-passes c =
-    allowed c.args.config.now c.args.zone.now.rules c.args.zone.now.inversion c.args.packet.now
-    ∙ ap (λ (passes : Bool). silently (if passes then Some Accept else None)) (sym c.in_ok-passes.ensures ∙ c.if-passes.true)
+pub returns-then-is_some : goal.returns-then-is_some
+returns-then-is_some c =
+    ends (rich_items c.args.config.now Allow c.args.rules.now.rich) (listed_items c.args.config.now c.args.rules.now c.args.inversion) c.args.packet.now _ _ _
+    (sym c.if-is_some.ensures) c.in_ok-decided.ensures
 
-pub returns-else-passes : goal.returns-else-passes
-returns-else-passes c =
-    allowed c.args.config.now c.args.zone.now.rules c.args.zone.now.inversion c.args.packet.now
-    ∙ ap (λ (passes : Bool). silently (if passes then Some Accept else None)) (sym c.in_ok-passes.ensures ∙ c.if-passes.false)
+pub returns : goal.returns
+returns c =
+    IfOk-weaker c.allow_listed.result _ _
+    (λ decided lets_in.
+    goes_on (rich_items c.args.config.now Allow c.args.rules.now.rich) (listed_items c.args.config.now c.args.rules.now c.args.inversion) c.args.packet.now _ _ _ _
+    (none _ _ _ _ (sym c.if-is_some.ensures) c.in_ok-decided.ensures)
+    (keeps_lines _ _ _ lets_in))
+    c.allow_listed.ensures

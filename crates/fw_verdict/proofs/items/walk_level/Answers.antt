@@ -1,0 +1,37 @@
+use Rattle.std.proofs.Common.{◌++◌, sym}
+use Rattle.std.proofs.lemmas.Result.{IfOk-weaker}
+use Rattle.fw_verdict.specs.Items.{allow_items, deny_items}
+use Rattle.fw_verdict.specs.Rich.{rich_items}
+use Rattle.fw_verdict.specs.Walk.{Item}
+use Rattle.fw_verdict.specs.declared.rich.Part.TheVariants.{Log}
+use Rattle.fw_verdict.proofs.Sequences.{ends, goes_on}
+use Rattle.fw_verdict.proofs.Zones.{none}
+use Rattle.fw_verdict.proofs.items.walk_level.Goals as goal
+
+pub returns-then-is_some : goal.returns-then-is_some
+returns-then-is_some c =
+    let config = c.args.config.now in
+    let rules = c.args.rules.now in
+    ends (rich_items config Log rules.rich) (deny_items config rules c.args.inversion ++ allow_items config rules c.args.inversion) c.args.packet.now _ _ _
+    (sym c.if-is_some.ensures) c.in_ok-decided.ensures
+
+pub returns-then-is_some-2 : goal.returns-then-is_some-2
+returns-then-is_some-2 c =
+    let config = c.args.config.now in
+    let rules = c.args.rules.now in
+    goes_on (rich_items config Log rules.rich) (deny_items config rules c.args.inversion ++ allow_items config rules c.args.inversion) c.args.packet.now _ _ _ _
+    (none _ _ _ _ (sym c.if-is_some.ensures) c.in_ok-decided.ensures)
+    (ends (deny_items config rules c.args.inversion) (allow_items config rules c.args.inversion) c.args.packet.now _ _ _
+    (sym c.if-is_some-2.ensures) c.in_ok-denied.ensures)
+
+pub returns : goal.returns
+returns c =
+    let config = c.args.config.now in
+    let rules = c.args.rules.now in
+    IfOk-weaker c.allow.result _ _
+    (λ decided lets_in.
+    goes_on (rich_items config Log rules.rich) (deny_items config rules c.args.inversion ++ allow_items config rules c.args.inversion) c.args.packet.now _ _ _ _
+    (none _ _ _ _ (sym c.if-is_some.ensures) c.in_ok-decided.ensures)
+    (goes_on (deny_items config rules c.args.inversion) (allow_items config rules c.args.inversion) c.args.packet.now _ _ _ _
+    (none _ _ _ _ (sym c.if-is_some-2.ensures) c.in_ok-denied.ensures) lets_in))
+    c.allow.ensures

@@ -1,6 +1,0 @@
--- What a reference to an interface entry and its zone stands for.
-use Rattle.fw_verdict.specs.Bindings.{Entry}
-use Rattle.fw_verdict.specs.declared.interfaces.Found.{Found}
-
-abbrev pub entry_of : Found → Entry
-entry_of found = record { zone = found.zone.now; text = found.iface.now }
