@@ -43,7 +43,7 @@ use Rattle.dbus_msg.proofs.FieldsRead.{body_signature, fields_are_items, fields_
 use Rattle.dbus_msg.proofs.PatchLaws.{body_short, fields_len_short, written_len}
 
 -- the header of a message that is written
-abbrev header_written : Message → Header
+abbrev pub header_written : Message → Header
 header_written m = record { endian = Little; kind = m.kind; flags = m.flags; serial = m.serial; body_len = length (body_bytes m); fields_len = length (fields_bytes m) }
 
 -- ---- the fixed part
@@ -73,7 +73,7 @@ body_start_is : (m : Message) → body_start (header_written m) ≡ written_body
 body_start_is m =
     ap (λ (n : ℕ). n + gap 8 n) (fields_end_is m) ∙ ap (λ (n : ℕ). written_fields_end m + n) (sym (length-replicate (gap 8 (written_fields_end m)) 0))
 
-whole_len_is : (m : Message) → whole_len (header_written m) ≡ length (written m)
+pub whole_len_is : (m : Message) → whole_len (header_written m) ≡ length (written m)
 whole_len_is m = ap (λ (n : ℕ). n + length (body_bytes m)) (body_start_is m) ∙ sym (written_len m)
 
 not_zero : (n : ℕ) → 0 < n → not (eqb n 0) ≡ true
@@ -88,7 +88,7 @@ sound m is =
 sound_so : (version : ℕ) (h : Header) → is_sound version h ≡ true → sound_header version h ≡ Some h
 sound_so version h is = rw is refl
 
-header_read : (m : Message) → IsMessage m → header_of (written m) ≡ Some (header_written m)
+pub header_read : (m : Message) → IsMessage m → header_of (written m) ≡ Some (header_written m)
 unfolding written
 header_read m is = ap (sound_header 1) (header_in_written m is) ∙ sound_so 1 (header_written m) (sound m is)
 
