@@ -8,3 +8,4 @@ pub mod PatchLaws
 pub mod NameTexts
 pub mod FieldsRead
 pub mod MessageRead
+pub mod WrittenStream

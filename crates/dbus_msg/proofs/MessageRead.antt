@@ -19,6 +19,8 @@ use Rattle.dbus_wire.specs.declared.value.Value.TheOpen.{Value-F}
 use Rattle.dbus_wire.specs.declared.value.Value.TheViews.{out-Value, out-roll-Value}
 use Rattle.dbus_wire.specs.Alignment.{alignment, element_alignment}
 use Rattle.dbus_wire.specs.Fields.{gap}
+use Rattle.dbus_wire.specs.Packing.{array_of}
+use Rattle.dbus_wire.proofs.ArrayLaws.{held_as_values, other_struct}
 use Rattle.dbus_wire.specs.Fits.{Fits, IsArray, Members, Spells}
 use Rattle.dbus_wire.specs.Spelling.{array_spelling, padding, spelling, spellings, to_bytes}
 use Rattle.dbus_wire.specs.TypeCodes.{types_codes}
@@ -41,7 +43,7 @@ use Rattle.dbus_msg.proofs.FieldsRead.{body_signature, fields_are_items, fields_
 use Rattle.dbus_msg.proofs.PatchLaws.{body_short, fields_len_short, written_len}
 
 -- the header of a message that is written
-abbrev header_written : Message → Header
+abbrev pub header_written : Message → Header
 header_written m = record { endian = Little; kind = m.kind; flags = m.flags; serial = m.serial; body_len = length (body_bytes m); fields_len = length (fields_bytes m) }
 
 -- ---- the fixed part
@@ -71,7 +73,7 @@ body_start_is : (m : Message) → body_start (header_written m) ≡ written_body
 body_start_is m =
     ap (λ (n : ℕ). n + gap 8 n) (fields_end_is m) ∙ ap (λ (n : ℕ). written_fields_end m + n) (sym (length-replicate (gap 8 (written_fields_end m)) 0))
 
-whole_len_is : (m : Message) → whole_len (header_written m) ≡ length (written m)
+pub whole_len_is : (m : Message) → whole_len (header_written m) ≡ length (written m)
 whole_len_is m = ap (λ (n : ℕ). n + length (body_bytes m)) (body_start_is m) ∙ sym (written_len m)
 
 not_zero : (n : ℕ) → 0 < n → not (eqb n 0) ≡ true
@@ -86,7 +88,7 @@ sound m is =
 sound_so : (version : ℕ) (h : Header) → is_sound version h ≡ true → sound_header version h ≡ Some h
 sound_so version h is = rw is refl
 
-header_read : (m : Message) → IsMessage m → header_of (written m) ≡ Some (header_written m)
+pub header_read : (m : Message) → IsMessage m → header_of (written m) ≡ Some (header_written m)
 unfolding written
 header_read m is = ap (sound_header 1) (header_in_written m is) ∙ sound_so 1 (header_written m) (sound m is)
 
@@ -107,10 +109,13 @@ item_aligned = array_aligned item_kind ∙ kind_aligned
 fields_spelt : (m : Message) → spelling Little (fields_value m) 12 ≡ to_bytes Little w32 (length (fields_bytes m)) ++ fields_bytes m
 fields_spelt m = spelt_array Little (codes fields_kind) (items m) 12 ∙ ap (λ (n : ℕ). array_spelling Little n (spellings Little (items m)) 12) item_aligned
 
+fields_held : (m : Message) → fields_value m ≡ array_of item_kind (items m)
+fields_held m = ap (λ (make : List Value → Value). make (items m)) (sym (held_as_values item_kind (other_struct (Plain basic.Byte ∷ Variant ∷ []))))
+
 fields_fit : (m : Message) → IsMessage m → Fits Little max_open fields_kind 12 (fields_value m)
 fields_fit m is =
     opened Little 63 fields_kind (Kind-F.Array item_kind) 12 (fields_value m) (out_array item_kind)
-    (subst (λ (n : ℕ). IsArray Little n (Fits Little 63 item_kind) fields_kind 12 (fields_value m)) (sym kind_aligned) (items m, refl, fields_are_items m.fields m.body is.fields names_short is.body.signature 16, is.fields_short))
+    (subst (λ (n : ℕ). IsArray Little n (Fits Little 63 item_kind) (array_of item_kind) 12 (fields_value m)) (sym kind_aligned) (items m, fields_held m, fields_are_items m.fields m.body is.fields names_short is.body.signature 16, is.fields_short))
 
 fields_behind : (m : Message) → drop 12 (written m) ≡ spelling Little (fields_value m) 12 ++ (fields_gap m ++ body_bytes m)
 unfolding written

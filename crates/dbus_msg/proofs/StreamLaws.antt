@@ -39,13 +39,13 @@ start_more bytes behind le =
 
 -- ---- a whole message at the front of bytes
 
-record WholeAt (bytes : List ℕ) (message : Message) (rest : List ℕ) : Type 0 where
-  header : Header
-  long : fixed_part ≤ length bytes
-  start : header_of bytes ≡ Some header
-  enough : whole_len header ≤ length bytes
-  is : message_of (take (whole_len header) bytes) ≡ Some message
-  behind : rest ≡ drop (whole_len header) bytes
+pub record WholeAt (bytes : List ℕ) (message : Message) (rest : List ℕ) : Type 0 where
+  pub header : Header
+  pub long : fixed_part ≤ length bytes
+  pub start : header_of bytes ≡ Some header
+  pub enough : whole_len header ≤ length bytes
+  pub is : message_of (take (whole_len header) bytes) ≡ Some message
+  pub behind : rest ≡ drop (whole_len header) bytes
 
 found : (bytes : List ℕ) (header : Header) (read : Option Message) (message : Message) (rest : List ℕ) → fixed_part ≤ length bytes → header_of bytes ≡ Some header → whole_len header ≤ length bytes → message_of (take (whole_len header) bytes) ≡ read
     → judged bytes (whole_len header) read ≡ whole message rest → WholeAt bytes message rest
@@ -72,7 +72,7 @@ whole_at : (bytes : List ℕ) (message : Message) (rest : List ℕ) → next byt
 unfolding next
 whole_at bytes message rest e = begun bytes (ltb (length bytes) fixed_part) message rest refl e
 
-whole_next : (bytes : List ℕ) (message : Message) (rest : List ℕ) → WholeAt bytes message rest → next bytes ≡ whole message rest
+pub whole_next : (bytes : List ℕ) (message : Message) (rest : List ℕ) → WholeAt bytes message rest → next bytes ≡ whole message rest
 unfolding next
 whole_next bytes message rest w =
     let long : ltb (length bytes) fixed_part ≡ false = le-ltb _ _ w.long in
@@ -80,7 +80,7 @@ whole_next bytes message rest w =
     rw (long, w.start, enough, w.is) (ap (whole message) (sym w.behind))
 
 -- A message that is whole is whole whatever stands behind it.
-next_more : (bytes piece : List ℕ) (message : Message) (rest : List ℕ) → next bytes ≡ whole message rest → next (bytes ++ piece) ≡ whole message (rest ++ piece)
+pub next_more : (bytes piece : List ℕ) (message : Message) (rest : List ℕ) → next bytes ≡ whole message rest → next (bytes ++ piece) ≡ whole message (rest ++ piece)
 next_more bytes piece message rest e =
     let w = whole_at bytes message rest e in
     let len = length-append bytes piece in

@@ -6,7 +6,7 @@ use std::test::Fail;
 /// A type, what its values begin at a multiple of, and one value in both byte orders where it begins there.
 type Row = (&'static [u8], u8, &'static [u8], &'static [u8]);
 
-const ROWS: [Row; 20] = [
+const ROWS: [Row; 23] = [
     (b"y", 1, &[5], &[5]),
     (b"b", 4, &[1, 0, 0, 0], &[0, 0, 0, 1]),
     (b"n", 2, &[254, 255], &[255, 254]),
@@ -42,6 +42,19 @@ const ROWS: [Row; 20] = [
     (b"g", 1, &[2, 97, 115, 0], &[2, 97, 115, 0]),
     (b"v", 1, &[1, 121, 0, 5], &[1, 121, 0, 5]),
     (b"ay", 4, &[2, 0, 0, 0, 1, 2], &[0, 0, 0, 2, 1, 2]),
+    (
+        b"ab",
+        4,
+        &[4, 0, 0, 0, 1, 0, 0, 0],
+        &[0, 0, 0, 4, 0, 0, 0, 1],
+    ),
+    (
+        b"aq",
+        4,
+        &[4, 0, 0, 0, 1, 2, 3, 4],
+        &[0, 0, 0, 4, 2, 1, 4, 3],
+    ),
+    (b"an", 4, &[2, 0, 0, 0, 254, 255], &[0, 0, 0, 2, 255, 254]),
     (
         b"as",
         4,

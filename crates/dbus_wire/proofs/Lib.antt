@@ -5,7 +5,9 @@ pub mod KeepsLaws
 pub mod RoundTrip
 pub mod PatchLaws
 pub mod Some
+pub mod ArrayLaws
 pub mod SpellingLaws
+pub mod ArraySpelling
 pub mod StringLaws
 pub mod ValueAgain
 pub mod ValueLaws

@@ -1,17 +1,19 @@
 -- How each value is spelt, one level at a time.
-use Rattle.std.proofs.Common.{◌≡◌, ℕ, ◌+◌, ◌-◌, ◌<◌, ◌≤◌, Bool, List, [], ◌∷◌, ◌++◌, length, get_or, take, drop, sym, ap, ◌∙◌, append_assoc, arith}
+use Rattle.std.proofs.Common.{◌≡◌, ℕ, ◌+◌, ◌-◌, ◌<◌, ◌≤◌, Bool, List, [], ◌∷◌, ◌++◌, length, get_or, take, drop, map, refl, sym, ap, ◌∙◌, append_assoc, arith}
 use Rattle.std.specs.Prelude.{ℤ}
 use Rattle.std.specs.Int.{w16, w32, w64, cast_unsigned}
-use Rattle.std.proofs.lemmas.List.{append-nil, length-append, take_more, take-append-drop}
+use Rattle.std.proofs.lemmas.List.{append-nil, length-append, map-append, take_more, take-append-drop}
 use Rattle.dbus_wire.specs.declared.value.Endian.{Endian}
 use Rattle.dbus_wire.specs.declared.value.Value.{Value}
 use Rattle.dbus_wire.specs.declared.value.Value.TheVariants as value
-use Rattle.dbus_wire.specs.declared.value.Value.TheVariants.{rolls-Byte, rolls-Bool, rolls-I16, rolls-U16, rolls-I32, rolls-U32, rolls-I64, rolls-U64, rolls-Double, rolls-Str, rolls-Path, rolls-Sig, rolls-Fd, rolls-Array, rolls-Struct, rolls-Pair, rolls-Variant}
+use Rattle.dbus_wire.specs.declared.value.Value.TheVariants.{rolls-Byte, rolls-Bool, rolls-I16, rolls-U16, rolls-I32, rolls-U32, rolls-I64, rolls-U64, rolls-Double, rolls-Str, rolls-Path, rolls-Sig, rolls-Fd, rolls-Packed, rolls-Array, rolls-Struct, rolls-Pair, rolls-Variant}
 use Rattle.dbus_wire.specs.declared.value.Value.TheOpen.{Value-F}
 use Rattle.dbus_wire.specs.declared.value.Value.TheViews.{roll-Value}
 use Rattle.dbus_wire.specs.declared.value.Value.TheFolds.{fold-roll-Value}
-use Rattle.dbus_wire.specs.Spelling.{spelling, spellings, spelling_step, aligned, bit, text_spelling, signature_spelling, array_spelling, behind_padding, padding}
+use Rattle.dbus_wire.specs.Spelling.{spelling, spellings, spelling_step, aligned, bit, text_spelling, signature_spelling, array_spelling, behind_padding, in_row, packed_row, padding}
+use Rattle.dbus_wire.specs.declared.value.Packed.{Packed}
 use Rattle.dbus_wire.specs.Alignment.{element_alignment}
+use Rattle.dbus_wire.specs.Packing.{packed_codes}
 
 rolled : (e : Endian) (v : Value) (x : Value-F Value) (at : ℕ) → roll-Value x ≡ v → spelling e v at ≡ spelling e (roll-Value x) at
 rolled e v x at is = ap (λ (w : Value). spelling e w at) (sym is)
@@ -55,6 +57,9 @@ spelt_path e t at = rolled e (value.Path t) (Value-F.Path t) at (rolls-Path t) �
 pub spelt_sig : (e : Endian) (s : List ℕ) (at : ℕ) → spelling e (value.Sig s) at ≡ signature_spelling s
 spelt_sig e s at = rolled e (value.Sig s) (Value-F.Sig s) at (rolls-Sig s) ∙ ap (λ (f : ℕ → List ℕ). f at) (fold-roll-Value (ℕ → List ℕ) (spelling_step e) (Value-F.Sig s))
 
+pub spelt_packed : (e : Endian) (p : Packed) (at : ℕ) → spelling e (value.Packed p) at ≡ array_spelling e (element_alignment (packed_codes p)) (in_row (packed_row e p)) at
+spelt_packed e p at = rolled e (value.Packed p) (Value-F.Packed p) at (rolls-Packed p) ∙ ap (λ (f : ℕ → List ℕ). f at) (fold-roll-Value (ℕ → List ℕ) (spelling_step e) (Value-F.Packed p))
+
 pub spelt_array : (e : Endian) (s : List ℕ) (vs : List Value) (at : ℕ) → spelling e (value.Array s vs) at ≡ array_spelling e (element_alignment s) (spellings e vs) at
 spelt_array e s vs at = rolled e (value.Array s vs) (Value-F.Array s vs) at (rolls-Array s vs) ∙ ap (λ (f : ℕ → List ℕ). f at) (fold-roll-Value (ℕ → List ℕ) (spelling_step e) (Value-F.Array s vs))
 
@@ -67,7 +72,7 @@ spelt_pair e k v at = rolled e (value.Pair k v) (Value-F.Pair k v) at (rolls-Pai
 pub spelt_variant : (e : Endian) (s : List ℕ) (v : Value) (at : ℕ) → spelling e (value.Variant s v) at ≡ signature_spelling s ++ spelling e v (at + length (signature_spelling s))
 spelt_variant e s v at = rolled e (value.Variant s v) (Value-F.Variant s v) at (rolls-Variant s v) ∙ ap (λ (f : ℕ → List ℕ). f at) (fold-roll-Value (ℕ → List ℕ) (spelling_step e) (Value-F.Variant s v))
 
-pub ruleset spelt = (spelt_byte, spelt_bool, spelt_i16, spelt_u16, spelt_i32, spelt_u32, spelt_i64, spelt_u64, spelt_double, spelt_fd, spelt_str, spelt_path, spelt_sig, spelt_array, spelt_struct, spelt_pair, spelt_variant)
+pub ruleset spelt = (spelt_byte, spelt_bool, spelt_i16, spelt_u16, spelt_i32, spelt_u32, spelt_i64, spelt_u64, spelt_double, spelt_fd, spelt_str, spelt_path, spelt_sig, spelt_packed, spelt_array, spelt_struct, spelt_pair, spelt_variant)
 
 -- ---- rows
 
@@ -137,6 +142,35 @@ row_goes_on e vs i v base out new origin lt is le before after =
     after ∙ ap (λ (t : List ℕ). t ++ spelling e v (length out - origin)) before
     ∙ append_assoc base row (spelling e v (length out - origin))
     ∙ ap (λ (t : List ℕ). base ++ t) (ap (λ (n : ℕ). row ++ spelling e v n) here ∙ sym (spellings_more e vs i from v lt is))
+
+-- numbers in a row
+in_row_append : (xs ys : List (ℕ → List ℕ)) (at : ℕ) → in_row (xs ++ ys) at ≡ in_row xs at ++ in_row ys (at + length (in_row xs at))
+in_row_append [] ys at = ap (in_row ys) (let h : at ≡ at + 0 = omega arith in h)
+in_row_append (x ∷ xs) ys at =
+    let first = x at in
+    let here = at + length first in
+    ap (λ (t : List ℕ). first ++ t) (in_row_append xs ys here)
+    ∙ sym (append_assoc first (in_row xs here) (in_row ys (here + length (in_row xs here))))
+    ∙ ap (λ (n : ℕ). (first ++ in_row xs here) ++ in_row ys n) (let h : here + length (in_row xs here) ≡ at + length (first ++ in_row xs here) = omega (arith, length-append first (in_row xs here)) in h)
+
+in_row_more : {A : Type 0} (spelt : A → ℕ → List ℕ) (xs : List A) (i at : ℕ) (x : A) → i < length xs → x ≡ get_or xs i x
+    → in_row (map spelt (take (i + 1) xs)) at ≡ in_row (map spelt (take i xs)) at ++ spelt x (at + length (in_row (map spelt (take i xs)) at))
+in_row_more {A} spelt xs i at x lt is =
+    let front = map spelt (take i xs) in
+    ap (λ (ys : List A). in_row (map spelt ys) at) (take_more xs i x lt ∙ ap (λ (y : A). take i xs ++ y ∷ []) (sym is))
+    ∙ ap (λ (fs : List (ℕ → List ℕ)). in_row fs at) (map-append spelt (take i xs) (x ∷ []))
+    ∙ in_row_append front (spelt x ∷ []) at
+    ∙ ap (λ (t : List ℕ). in_row front at ++ t) (append-nil (spelt x (at + length (in_row front at))))
+
+pub numbers_go_on : {A : Type 0} (spelt : A → ℕ → List ℕ) (xs : List A) (i : ℕ) (x : A) (base out new : List ℕ) (origin : ℕ) → i < length xs → x ≡ get_or xs i x → origin ≤ length base
+    → out ≡ base ++ in_row (map spelt (take i xs)) (length base - origin) → new ≡ out ++ spelt x (length out - origin) → new ≡ base ++ in_row (map spelt (take (i + 1) xs)) (length base - origin)
+numbers_go_on spelt xs i x base out new origin lt is le before after =
+    let from = length base - origin in
+    let row = in_row (map spelt (take i xs)) from in
+    let here : length out - origin ≡ from + length row = ap (λ (t : List ℕ). length t - origin) before ∙ ends_behind base row origin le in
+    after ∙ ap (λ (t : List ℕ). t ++ spelt x (length out - origin)) before
+    ∙ append_assoc base row (spelt x (length out - origin))
+    ∙ ap (λ (t : List ℕ). base ++ t) (ap (λ (n : ℕ). row ++ spelt x n) here ∙ sym (in_row_more spelt xs i from x lt is))
 
 -- one of several values is no longer than all of them
 pub item_short : (e : Endian) (vs : List Value) (i : ℕ) (v : Value) (base out : List ℕ) (origin bound : ℕ) → i < length vs → v ≡ get_or vs i v → origin ≤ length base

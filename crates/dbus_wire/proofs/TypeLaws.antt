@@ -9,13 +9,15 @@ use Rattle.dbus_signature.specs.declared.kind.Kind.TheVariants.{Basic as Plain, 
 use Rattle.dbus_signature.specs.declared.kind.Kind.TheViews.{out-Kind}
 use Rattle.dbus_signature.specs.declared.kind.Kind.TheOpen.{Kind-F}
 use Rattle.dbus_signature.specs.Types.{all_codes, code, codes}
-use Rattle.dbus_signature.proofs.KindLaws.{by_kind, codes_plain, codes_variant, codes_struct}
+use Rattle.dbus_signature.proofs.KindLaws.{by_kind, codes_array, codes_plain, codes_variant, codes_struct}
 use Rattle.dbus_wire.specs.declared.value.Endian.{Endian}
 use Rattle.dbus_wire.specs.declared.value.Value.{Value}
 use Rattle.dbus_wire.specs.declared.value.Value.TheVariants as value
-use Rattle.dbus_wire.specs.declared.value.Value.TheVariants.{rolls-Byte, rolls-Bool, rolls-I16, rolls-U16, rolls-I32, rolls-U32, rolls-I64, rolls-U64, rolls-Double, rolls-Str, rolls-Path, rolls-Sig, rolls-Fd, rolls-Array, rolls-Struct, rolls-Pair, rolls-Variant}
+use Rattle.dbus_wire.specs.declared.value.Value.TheVariants.{rolls-Byte, rolls-Bool, rolls-I16, rolls-U16, rolls-I32, rolls-U32, rolls-I64, rolls-U64, rolls-Double, rolls-Str, rolls-Path, rolls-Sig, rolls-Fd, rolls-Packed, rolls-Array, rolls-Struct, rolls-Pair, rolls-Variant}
 use Rattle.dbus_wire.specs.declared.value.Value.TheOpen.{Value-F}
 use Rattle.dbus_wire.specs.declared.value.Value.TheFolds.{fold-roll-Value}
+use Rattle.dbus_wire.specs.declared.value.Packed.{Packed}
+use Rattle.dbus_wire.specs.Packing.{array_by, array_of, packed_codes, packing}
 use Rattle.dbus_wire.specs.Fits.{Said, Members, IsArray, IsOpen, IsClosed, IsBasic, Fits, FitsEntry}
 use Rattle.dbus_wire.specs.TypeCodes.{type_codes, type_step, types_codes}
 use Rattle.dbus_wire.proofs.Some.{out_plain, out_variant, out_array, out_dict, out_struct}
@@ -59,6 +61,9 @@ typed_sig s = ap type_codes (sym (rolls-Sig s)) ∙ fold-roll-Value (List ℕ) t
 pub typed_fd : (n : ℕ) → type_codes (value.Fd n) ≡ 104 ∷ []
 typed_fd n = ap type_codes (sym (rolls-Fd n)) ∙ fold-roll-Value (List ℕ) type_step (Value-F.Fd n)
 
+pub typed_packed : (p : Packed) → type_codes (value.Packed p) ≡ packed_codes p
+typed_packed p = ap type_codes (sym (rolls-Packed p)) ∙ fold-roll-Value (List ℕ) type_step (Value-F.Packed p)
+
 pub typed_array : (s : List ℕ) (vs : List Value) → type_codes (value.Array s vs) ≡ s
 typed_array s vs = ap type_codes (sym (rolls-Array s vs)) ∙ fold-roll-Value (List ℕ) type_step (Value-F.Array s vs)
 
@@ -71,7 +76,7 @@ typed_pair k v = ap type_codes (sym (rolls-Pair k v)) ∙ fold-roll-Value (List 
 pub typed_variant : (s : List ℕ) (v : Value) → type_codes (value.Variant s v) ≡ 118 ∷ []
 typed_variant s v = ap type_codes (sym (rolls-Variant s v)) ∙ fold-roll-Value (List ℕ) type_step (Value-F.Variant s v)
 
-pub ruleset typed = (typed_byte, typed_bool, typed_i16, typed_u16, typed_i32, typed_u32, typed_i64, typed_u64, typed_double, typed_str, typed_path, typed_sig, typed_fd, typed_array, typed_struct, typed_pair, typed_variant)
+pub ruleset typed = (typed_byte, typed_bool, typed_i16, typed_u16, typed_i32, typed_u32, typed_i64, typed_u64, typed_double, typed_str, typed_path, typed_sig, typed_fd, typed_packed, typed_array, typed_struct, typed_pair, typed_variant)
 
 -- ---- rows
 
@@ -113,6 +118,33 @@ members_typed e said typed [] (v ∷ vs) at fit = absurd fit
 members_typed e said typed (k ∷ ks) [] at fit = absurd fit
 members_typed e said typed (k ∷ ks) (v ∷ vs) at fit = rw (typed k at v fit.0, members_typed e said typed ks vs _ fit.1) refl
 
+array_codes : (b : Basic) → codes (Array (Plain b)) ≡ 97 ∷ code b ∷ []
+array_codes b = codes_array (Plain b) ∙ ap (λ (t : List ℕ). 97 ∷ t) (codes_plain b)
+
+typed_by : (b : Basic) (items : List Value) → type_codes (array_by (Plain b) (packing b) items) ≡ 97 ∷ code b ∷ []
+typed_by basic.Byte items = typed_packed _
+typed_by basic.Bool items = typed_packed _
+typed_by basic.I16 items = typed_packed _
+typed_by basic.U16 items = typed_packed _
+typed_by basic.I32 items = typed_packed _
+typed_by basic.U32 items = typed_packed _
+typed_by basic.I64 items = typed_packed _
+typed_by basic.U64 items = typed_packed _
+typed_by basic.Double items = typed_packed _
+typed_by basic.Fd items = typed_packed _
+typed_by basic.Str items = typed_array (codes (Array (Plain basic.Str))) items ∙ array_codes basic.Str
+typed_by basic.Path items = typed_array (codes (Array (Plain basic.Path))) items ∙ array_codes basic.Path
+typed_by basic.Sig items = typed_array (codes (Array (Plain basic.Sig))) items ∙ array_codes basic.Sig
+
+typed_elements : (el : Kind) (items : List Value) → type_codes (array_of el items) ≡ codes (Array el)
+unfolding array_of
+typed_elements el items = by_kind (λ el. type_codes (array_of el items) ≡ codes (Array el))
+    (λ b. rw (out_plain b) (typed_by b items ∙ sym (array_codes b)))
+    (rw out_variant (typed_array (codes (Array Variant)) items))
+    (λ inner. rw (out_array inner) (typed_array (codes (Array (Array inner))) items))
+    (λ b inner. rw (out_dict b inner) (typed_array (codes (Array (Dict b inner))) items))
+    (λ ks. rw (out_struct ks) (typed_array (codes (Array (Struct ks))) items)) el
+
 abbrev OpenTyped : Endian → (Kind → Said) → (Basic → Kind → Said) → Kind → Kind-F Kind → Type 0
 OpenTyped e said entry kind layer = (at : ℕ) (v : Value) → IsOpen e said entry kind layer at v → type_codes v ≡ codes kind
 
@@ -120,7 +152,7 @@ opens_typed : (e : Endian) (said : Kind → Said) (entry : Basic → Kind → Sa
 opens_typed e said entry typed = by_kind (λ kind. OpenTyped e said entry kind (out-Kind kind))
     (λ b. rw (out_plain b) (λ at v is. basic_typed b v is ∙ sym (codes_plain b)))
     (rw out_variant (λ at v is. rw is.3 (typed_variant is.0 is.2 ∙ sym codes_variant)))
-    (λ el. rw (out_array el) (λ at v is. rw is.1 (typed_array (codes (Array el)) is.0)))
+    (λ el. rw (out_array el) (λ at v is. rw is.1 (typed_elements el is.0)))
     (λ b el. rw (out_dict b el) (λ at v is. rw is.1 (typed_array (codes (Dict b el)) is.0)))
     (λ ks. rw (out_struct ks) (λ at v is. rw is.1 (typed_struct is.0 ∙ ap (λ (t : List ℕ). 40 ∷ t ++ 41 ∷ []) (members_typed e said typed ks is.0 _ is.3) ∙ sym (codes_struct ks))))
 

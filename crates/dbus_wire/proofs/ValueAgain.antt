@@ -11,6 +11,8 @@ use Rattle.dbus_signature.specs.declared.kind.Kind.TheOpen.{Kind-F}
 use Rattle.dbus_signature.specs.Reading.{Reader, ◌>>=◌}
 use Rattle.dbus_signature.specs.Types.{codes}
 use Rattle.dbus_signature.proofs.KindLaws.{by_kind}
+use Rattle.dbus_wire.specs.Packing.{array_of}
+use Rattle.dbus_wire.proofs.ArraySpelling.{elements_spelt, entries_spelt, fits_plain, Plainly, SpeltAs}
 use Rattle.dbus_wire.specs.declared.value.Endian.{Endian}
 use Rattle.dbus_wire.specs.declared.value.Value.{Value}
 use Rattle.dbus_wire.specs.declared.value.Value.TheVariants as value
@@ -102,11 +104,10 @@ members_again e read said reads (k ∷ ks) (v ∷ vs) at rest fit =
 abbrev Opens : Endian → (Kind → Reader Value) → (Basic → Kind → Reader Value) → (Kind → Said) → (Basic → Kind → Said) → Kind → Kind-F Kind → Type 0
 Opens e read entry said said_entry kind layer = (at : ℕ) (v : Value) → IsOpen e said said_entry kind layer at v → Again (value_by e read entry kind layer) e at v
 
-open_array : (e : Endian) (align : ℕ) (item : Reader Value) (said : Said) (kind : Kind) → Reads e said item → element_alignment (codes kind) ≡ align → (at : ℕ) (v : Value) → IsArray e align said kind at v
-    → Again (λ at text. as_value (value.Array (codes kind)) (array_at e align item at text)) e at v
-open_array e align item said kind reads aligned at v is rest =
-    let spelt : spelling e (value.Array (codes kind) is.0) at ≡ array_spelling e align (spellings e is.0) at = spelt_array e (codes kind) is.0 at ∙ ap (λ (n : ℕ). array_spelling e n (spellings e is.0) at) aligned in
-    rw (is.1, spelt, array_again e align item said reads is.0 at rest (is.2, is.3)) refl
+open_array : (e : Endian) (align : ℕ) (item : Reader Value) (said : Said) (make : List Value → Value) → Reads e said item → SpeltAs e align said make → (at : ℕ) (v : Value) → IsArray e align said make at v
+    → Again (λ at text. as_value make (array_at e align item at text)) e at v
+open_array e align item said make reads spelt at v is rest =
+    rw (is.1, spelt is.0 at is.2, array_again e align item said reads is.0 at rest (is.2, is.3)) refl
 
 open_struct : (e : Endian) (read : Kind → Reader Value) (said : Kind → Said) → ((k : Kind) → Reads e (said k) (read k)) → (ks : List Kind) (vs : List Value) (at : ℕ) (rest : List ℕ) → Members e said ks vs (at + length (padding 8 at))
     → struct_at read ks at (spelling e (value.Struct vs) at ++ rest) ≡ found (value.Struct vs) (at + length (spelling e (value.Struct vs) at)) rest
@@ -143,25 +144,25 @@ open_pair e key read said reads at v is rest =
     (moved_to (value.Pair is.0 is.1) _ _ rest (omega (arith, length-append pad (first ++ second), length-append first second)))
 
 opens : (e : Endian) (read : Kind → Reader Value) (entry : Basic → Kind → Reader Value) (said : Kind → Said) (said_entry : Basic → Kind → Said) → ((k : Kind) → Reads e (said k) (read k)) → ((b : Basic) (k : Kind) → Reads e (said_entry b k) (entry b k))
-    → (kind : Kind) → Opens e read entry said said_entry kind (out-Kind kind)
-opens e read entry said said_entry reads reads_entry = by_kind (λ kind. Opens e read entry said said_entry kind (out-Kind kind))
+    → Plainly said → (kind : Kind) → Opens e read entry said said_entry kind (out-Kind kind)
+opens e read entry said said_entry reads reads_entry plain = by_kind (λ kind. Opens e read entry said said_entry kind (out-Kind kind))
     (λ b. rw (out_plain b) (λ at v is. basic_again e b at v is))
     (rw out_variant (open_variant e read said reads entry said_entry Variant))
-    (λ el. rw (out_array el) (λ at v is. open_array e (alignment el) (read el) (said el) (Array el) (reads el) (array_aligned el) at v is))
-    (λ b el. rw (out_dict b el) (λ at v is. open_array e 8 (entry b el) (said_entry b el) (Dict b el) (reads_entry b el) (dict_aligned b el) at v is))
+    (λ el. rw (out_array el) (λ at v is. open_array e (alignment el) (read el) (said el) (array_of el) (reads el) (elements_spelt e said plain el) at v is))
+    (λ b el. rw (out_dict b el) (λ at v is. open_array e 8 (entry b el) (said_entry b el) (value.Array (codes (Dict b el))) (reads_entry b el) (entries_spelt e (said_entry b el) b el) at v is))
     (λ ks. rw (out_struct ks) (λ at v is rest. rw is.1 (open_struct e read said reads ks is.0 at rest is.3)))
 
 -- ---- no spelling of a container is empty
 
-array_some : (e : Endian) (align : ℕ) (said : Said) (kind : Kind) (at : ℕ) (v : Value) → IsArray e align said kind at v → 0 < length (spelling e v at)
-array_some e align said kind at v is =
+array_some : (e : Endian) (align : ℕ) (said : Said) (make : List Value → Value) → SpeltAs e align said make → (at : ℕ) (v : Value) → IsArray e align said make at v → 0 < length (spelling e v at)
+array_some e align said make spelt at v is =
     let contents = spellings e is.0 in
     let pad = padding 4 at in
-    let behind = counted e (element_alignment (codes kind)) contents (at + length pad) in
-    let inner = at + length pad + 4 + length (padding (element_alignment (codes kind)) (at + length pad + 4)) in
+    let behind = counted e align contents (at + length pad) in
+    let inner = at + length pad + 4 + length (padding align (at + length pad + 4)) in
     let number = to_bytes e w32 (length (contents inner)) in
-    rw (is.1, spelt_array e (codes kind) is.0 at)
-    (omega (arith, length-append pad behind, length-append number (behind_padding (element_alignment (codes kind)) contents (at + length pad + 4)), (wide32 e).len (length (contents inner))))
+    rw (is.1, spelt is.0 at is.2)
+    (omega (arith, length-append pad behind, length-append number (behind_padding align contents (at + length pad + 4)), (wide32 e).len (length (contents inner))))
 
 struct_some : (e : Endian) (read : Kind → Reader Value) (said : Kind → Said) → ((k : Kind) → Reads e (said k) (read k)) → (ks : List Kind) (vs : List Value) (at : ℕ) → 0 < length vs → Members e said ks vs (at + length (padding 8 at)) → 0 < length (spelling e (value.Struct vs) at)
 struct_some e read said reads ks [] at some fit = absurd (omega arith)
@@ -188,12 +189,12 @@ pair_some e key said at v is =
 abbrev SomeOpen : Endian → (Kind → Said) → (Basic → Kind → Said) → Kind → Kind-F Kind → Type 0
 SomeOpen e said said_entry kind layer = (at : ℕ) (v : Value) → IsOpen e said said_entry kind layer at v → 0 < length (spelling e v at)
 
-opens_some : (e : Endian) (read : Kind → Reader Value) (said : Kind → Said) (said_entry : Basic → Kind → Said) → ((k : Kind) → Reads e (said k) (read k)) → (kind : Kind) → SomeOpen e said said_entry kind (out-Kind kind)
-opens_some e read said said_entry reads = by_kind (λ kind. SomeOpen e said said_entry kind (out-Kind kind))
+opens_some : (e : Endian) (read : Kind → Reader Value) (said : Kind → Said) (said_entry : Basic → Kind → Said) → ((k : Kind) → Reads e (said k) (read k)) → Plainly said → (kind : Kind) → SomeOpen e said said_entry kind (out-Kind kind)
+opens_some e read said said_entry reads plain = by_kind (λ kind. SomeOpen e said said_entry kind (out-Kind kind))
     (λ b. rw (out_plain b) (λ at v is. basic_some e b at v is))
     (rw out_variant (λ at v is. variant_some e said said_entry Variant at v is))
-    (λ el. rw (out_array el) (λ at v is. array_some e (alignment el) (said el) (Array el) at v is))
-    (λ b el. rw (out_dict b el) (λ at v is. array_some e 8 (said_entry b el) (Dict b el) at v is))
+    (λ el. rw (out_array el) (λ at v is. array_some e (alignment el) (said el) (array_of el) (elements_spelt e said plain el) at v is))
+    (λ b el. rw (out_dict b el) (λ at v is. array_some e 8 (said_entry b el) (value.Array (codes (Dict b el))) (entries_spelt e (said_entry b el) b el) at v is))
     (λ ks. rw (out_struct ks) (λ at v is. rw is.1 (struct_some e read said reads ks is.0 at is.2 is.3)))
 
 -- ---- where nothing more may be opened
@@ -230,8 +231,8 @@ all_read e (suc room) =
     let below = all_read e room in
     record {
       values = λ k. record {
-        again = λ at v is. opens e (value_at e room) (entry_at e room) (Fits e room) (FitsEntry e room) below.values below.entries k at v is;
-        some = λ at v is. opens_some e (value_at e room) (Fits e room) (FitsEntry e room) below.values k at v is;
+        again = λ at v is. opens e (value_at e room) (entry_at e room) (Fits e room) (FitsEntry e room) below.values below.entries (fits_plain e room) k at v is;
+        some = λ at v is. opens_some e (value_at e room) (Fits e room) (FitsEntry e room) below.values (fits_plain e room) k at v is;
       };
       entries = λ b k. record {
         again = λ at v is. open_pair e b (value_at e room k) (Fits e room k) (below.values k) at v is;

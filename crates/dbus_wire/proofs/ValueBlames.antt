@@ -18,6 +18,8 @@ use Rattle.dbus_signature.proofs.KindLaws.{by_kind}
 use Rattle.dbus_signature.proofs.Inner.{element_is, value_is, all_members_are}
 use Rattle.dbus_signature.proofs.Sound.{bind_ok, chosen, Takes}
 use Rattle.dbus_signature.proofs.Stops.{bind_err, err_is, not_err}
+use Rattle.dbus_wire.specs.Packing.{array_of}
+use Rattle.dbus_wire.proofs.ArrayLaws.{bind_assoc}
 use Rattle.dbus_wire.specs.declared.value.Endian.{Endian}
 use Rattle.dbus_wire.specs.declared.value.Value.{Value}
 use Rattle.dbus_wire.specs.declared.value.Value.TheVariants as value
@@ -180,10 +182,6 @@ contents_blame e said item fault w n = record {
 
 -- ---- arrays
 
-bind_assoc : {A B C : Type 0} (r : Result A ℕ) (f : A → Result B ℕ) (g : B → Result C ℕ) → (r >>= λ x. f x >>= g) ≡ ((r >>= f) >>= g)
-bind_assoc (Ok x) f g = refl
-bind_assoc (Err place) f g = refl
-
 abbrev limit_at : Endian → Reader ℕ
 limit_at e at text = number_at e w32 at text >>= λ number. within_limit at number
 
@@ -276,7 +274,7 @@ level_blames : (e : Endian) (read : Kind → Reader Value) (entry : Basic → Ki
 level_blames e read entry said said_entry fault fault_entry w w_entry = by_kind (λ kind. LevelBlames e read entry said said_entry fault fault_entry kind (out-Kind kind))
     (λ b. rw (out_plain b) (λ is. basic_blames e b))
     (rw out_variant (λ is. variant_blames e said read fault w))
-    (λ el. rw (out_array el) (λ is. made_blames (value.Array (codes (Array el))) (array_at e (alignment el) (read el)) (ArrayFault e (alignment el) (said el) (fault el)) (array_blames e (alignment el) (said el) (read el) (fault el) (w el (element_is el is)))))
+    (λ el. rw (out_array el) (λ is. made_blames (array_of el) (array_at e (alignment el) (read el)) (ArrayFault e (alignment el) (said el) (fault el)) (array_blames e (alignment el) (said el) (read el) (fault el) (w el (element_is el is)))))
     (λ b el. rw (out_dict b el) (λ is. made_blames (value.Array (codes (Dict b el))) (array_at e 8 (entry b el)) (ArrayFault e 8 (said_entry b el) (fault_entry b el)) (array_blames e 8 (said_entry b el) (entry b el) (fault_entry b el) (w_entry b el (value_is b el is)))))
     (λ ks. rw (out_struct ks) (λ is. struct_blames e said read fault w ks (all_members_are ks is)))
 

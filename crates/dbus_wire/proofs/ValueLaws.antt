@@ -34,11 +34,11 @@ entry_closed e key kind at text = refl
 pub ruleset value_steps = (value_opens, value_closed)
 
 -- what was read before, and what is still read
-abbrev pub with_values : List Value → Read (List Value) → Read (List Value)
+abbrev pub with_values : {A : Type 0} → List A → Read (List A) → Read (List A)
 with_values front read = read >>= λ x. Ok (front ++ x.0, x.1, x.2)
 
-regroup : (front : List Value) (v : Value) (read : Read (List Value)) → with_values front (read >>= λ x. Ok (v ∷ x.0, x.1, x.2)) ≡ with_values (front ++ v ∷ []) read
-regroup front v (Ok x) = ap (λ (vs : List Value). Ok (vs, x.1, x.2)) (simp append_assoc)
+regroup : {A : Type 0} (front : List A) (v : A) (read : Read (List A)) → with_values front (read >>= λ x. Ok (v ∷ x.0, x.1, x.2)) ≡ with_values (front ++ v ∷ []) read
+regroup {A} front v (Ok x) = ap (λ (vs : List A). Ok (vs, x.1, x.2)) (simp append_assoc)
 regroup front v (Err place) = refl
 
 pub some_left : (bytes : List ℕ) (b : Bool) → b ≡ eqb (length bytes) 0 → b ≡ false → 0 < length bytes
@@ -49,7 +49,7 @@ pub none_left : (bytes : List ℕ) (b : Bool) → b ≡ eqb (length bytes) 0 →
 none_left bytes b is holds = eqb-true (length bytes) 0 (sym is ∙ holds)
 
 -- the next item
-pub items_go_on : (item : Reader Value) (front : List Value) (n i at : ℕ) (text : List ℕ) (v : Value) (next : ℕ) (rest : List ℕ) (all : Read (List Value))
+pub items_go_on : {A : Type 0} (item : Reader A) (front : List A) (n i at : ℕ) (text : List ℕ) (v : A) (next : ℕ) (rest : List ℕ) (all : Read (List A))
     → i < n → 0 < length text → item at text ≡ Ok (v, next, rest) → with_values front (items_at item (n - i) at text) ≡ all
     → with_values (front ++ v ∷ []) (items_at item (n - (i + 1)) next rest) ≡ all
 unfolding items_at
@@ -60,7 +60,7 @@ items_go_on item front n i at (c ∷ text) v next rest all lt some is same =
     sym one ∙ same
 
 -- an item at fault
-pub items_end : (item : Reader Value) (e : WireError) (front : List Value) (n i at : ℕ) (text : List ℕ) (all : Read (List Value))
+pub items_end : {A : Type 0} (item : Reader A) (e : WireError) (front : List A) (n i at : ℕ) (text : List ℕ) (all : Read (List A))
     → i < n → 0 < length text → Fails e (item at text) → with_values front (items_at item (n - i) at text) ≡ all → Fails e all
 unfolding items_at
 items_end item errors.Memory front n i at text all lt some fails same = tt
@@ -71,15 +71,15 @@ items_end item (errors.Bad place) front n i at (c ∷ text) all lt some fails sa
     sym same ∙ one
 
 -- the end of the bytes
-pub items_done : (item : Reader Value) (front : List Value) (n at : ℕ) (text : List ℕ) (all : Read (List Value))
+pub items_done : {A : Type 0} (item : Reader A) (front : List A) (n at : ℕ) (text : List ℕ) (all : Read (List A))
     → length text ≡ 0 → with_values front (items_at item n at text) ≡ all → all ≡ Ok (front, at, text)
 unfolding items_at
-items_done item front zero at [] all none same = sym same ∙ ap (λ (vs : List Value). Ok (vs, at, [])) (append-nil front)
-items_done item front (suc n) at [] all none same = sym same ∙ ap (λ (vs : List Value). Ok (vs, at, [])) (append-nil front)
-items_done item front n at (c ∷ text) all none same = absurd (omega arith)
+items_done {A} item front zero at [] all none same = sym same ∙ ap (λ (vs : List A). Ok (vs, at, [])) (append-nil front)
+items_done {A} item front (suc n) at [] all none same = sym same ∙ ap (λ (vs : List A). Ok (vs, at, [])) (append-nil front)
+items_done {A} item front n at (c ∷ text) all none same = absurd (omega arith)
 
 -- bytes that are left behind as many items as there were bytes
-pub items_left : (item : Reader Value) (front : List Value) (n i at : ℕ) (text : List ℕ) (all : Read (List Value))
+pub items_left : {A : Type 0} (item : Reader A) (front : List A) (n i at : ℕ) (text : List ℕ) (all : Read (List A))
     → n ≤ i → 0 < length text → with_values front (items_at item (n - i) at text) ≡ all → all ≡ Err at
 unfolding items_at
 items_left item front n i at [] all le some same = absurd (omega arith)

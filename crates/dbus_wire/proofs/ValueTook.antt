@@ -15,6 +15,8 @@ use Rattle.dbus_signature.specs.Signatures.{IsKind}
 use Rattle.dbus_signature.proofs.KindLaws.{by_kind}
 use Rattle.dbus_signature.proofs.Inner.{element_is, value_is, all_members_are, struct_some}
 use Rattle.dbus_signature.proofs.Sound.{bind_ok, ok_is, not_ok, chosen, Takes, Takes-then}
+use Rattle.dbus_wire.specs.Packing.{array_of}
+use Rattle.dbus_wire.proofs.ArraySpelling.{elements_spelt, entries_spelt, fits_plain, Plainly, SpeltAs}
 use Rattle.dbus_wire.specs.declared.value.Endian.{Endian}
 use Rattle.dbus_wire.specs.declared.value.Value.{Value}
 use Rattle.dbus_wire.specs.declared.value.Value.TheVariants as value
@@ -190,25 +192,24 @@ pair_took e key read said honest at text x fits h =
     subst (λ (y : Value × ℕ × List ℕ). Took e (IsPair e key said) at text y) (ok_is (value.Pair a.0.0 b.0.0, b.0.1, b.0.2) x b.2)
     (rw spelt whole, (a.0.0, b.0.0, refl, t.1, fit))
 
-array_value_took : (e : Endian) (align : ℕ) (item : Reader Value) (said : Said) (kind : Kind) → Honest e said item → element_alignment (codes kind) ≡ align
-    → Honest e (IsArray e align said kind) (λ at text. as_value (value.Array (codes kind)) (array_at e align item at text))
-array_value_took e align item said kind honest aligned at text x fits h =
-    took_made (value.Array (codes kind)) e (IsArray e align said kind) at text (array_at e align item at text) x h (λ y is.
+array_value_took : (e : Endian) (align : ℕ) (item : Reader Value) (said : Said) (make : List Value → Value) → Honest e said item → SpeltAs e align said make
+    → Honest e (IsArray e align said make) (λ at text. as_value make (array_at e align item at text))
+array_value_took e align item said make honest spelt at text x fits h =
+    took_made make e (IsArray e align said make) at text (array_at e align item at text) x h (λ y is.
     let t = array_took e align item said honest at text y fits is in
-    let spelt : spelling e (value.Array (codes kind) y.0) at ≡ array_spelling e align (spellings e y.0) at = spelt_array e (codes kind) y.0 at ∙ ap (λ (n : ℕ). array_spelling e n (spellings e y.0) at) aligned in
-    (rw spelt t.0, (y.0, refl, t.1, t.2)))
+    (rw (spelt y.0 at t.1) t.0, (y.0, refl, t.1, t.2)))
 
 abbrev Level : Endian → (Kind → Reader Value) → (Basic → Kind → Reader Value) → (Kind → Said) → (Basic → Kind → Said) → Kind → Kind-F Kind → Type 0
 Level e read entry said said_entry kind layer = IsKind kind → Honest e (IsOpen e said said_entry kind layer) (value_by e read entry kind layer)
 
 level_took : (e : Endian) (read : Kind → Reader Value) (entry : Basic → Kind → Reader Value) (said : Kind → Said) (said_entry : Basic → Kind → Said)
     → ((k : Kind) → IsKind k → Honest e (said k) (read k)) → ((b : Basic) (k : Kind) → IsKind k → Honest e (said_entry b k) (entry b k))
-    → (kind : Kind) → Level e read entry said said_entry kind (out-Kind kind)
-level_took e read entry said said_entry honest honest_entry = by_kind (λ kind. Level e read entry said said_entry kind (out-Kind kind))
+    → Plainly said → (kind : Kind) → Level e read entry said said_entry kind (out-Kind kind)
+level_took e read entry said said_entry honest honest_entry plain = by_kind (λ kind. Level e read entry said said_entry kind (out-Kind kind))
     (λ b. rw (out_plain b) (λ is. basic_took e b))
     (rw out_variant (λ is. variant_took e read said said_entry Variant honest))
-    (λ el. rw (out_array el) (λ is. array_value_took e (alignment el) (read el) (said el) (Array el) (honest el (element_is el is)) (array_aligned el)))
-    (λ b el. rw (out_dict b el) (λ is. array_value_took e 8 (entry b el) (said_entry b el) (Dict b el) (honest_entry b el (value_is b el is)) (dict_aligned b el)))
+    (λ el. rw (out_array el) (λ is. array_value_took e (alignment el) (read el) (said el) (array_of el) (honest el (element_is el is)) (elements_spelt e said plain el)))
+    (λ b el. rw (out_dict b el) (λ is. array_value_took e 8 (entry b el) (said_entry b el) (value.Array (codes (Dict b el))) (honest_entry b el (value_is b el is)) (entries_spelt e (said_entry b el) b el)))
     (λ ks. rw (out_struct ks) (λ is. struct_took e read said said_entry honest ks (struct_some ks is) (all_members_are ks is)))
 
 closed_took : (e : Endian) (kind : Kind) → Honest e (λ at v. IsClosed (out-Kind kind) v) (closed_value_by e (out-Kind kind))
@@ -234,7 +235,7 @@ all_honest e zero = record {
 all_honest e (suc room) =
     let below = all_honest e room in
     record {
-      values = λ k is. level_took e (value_at e room) (entry_at e room) (Fits e room) (FitsEntry e room) below.values below.entries k is;
+      values = λ k is. level_took e (value_at e room) (entry_at e room) (Fits e room) (FitsEntry e room) below.values below.entries (fits_plain e room) k is;
       entries = λ b k is. pair_took e b (value_at e room k) (Fits e room k) (below.values k is);
     }
 

@@ -16,6 +16,7 @@ use Rattle.dbus_wire.specs.declared.strings.StringKind.TheVariants as string
 use Rattle.dbus_wire.specs.Texts.{is_string}
 use Rattle.dbus_wire.specs.Values.{max_array, max_open}
 use Rattle.dbus_wire.specs.Alignment.{alignment}
+use Rattle.dbus_wire.specs.Packing.{array_of}
 use Rattle.dbus_wire.specs.Spelling.{padding, signature_spelling, spelling, spellings}
 
 -- a number of a type that is below a limit
@@ -57,20 +58,20 @@ Members endian said [] (v ∷ vs) at = ⊥
 Members endian said (kind ∷ kinds) [] at = ⊥
 Members endian said (kind ∷ kinds) (v ∷ vs) at = said kind at v × Members endian said kinds vs (at + length (spelling endian v at))
 
--- an array ("Marshalling containers", ARRAY; 2^26 bytes at most): its items, each of which fits, and whose spellings have no more bytes than an array may have
-abbrev pub IsArray : Endian → ℕ → Said → Kind → ℕ → Value → Type 0
-IsArray endian align said kind at v =
+-- an array ("Marshalling containers", ARRAY; 2^26 bytes at most): it is made of items, each of which fits, and whose spellings have no more bytes than an array may have
+abbrev pub IsArray : Endian → ℕ → Said → (List Value → Value) → ℕ → Value → Type 0
+IsArray endian align said make at v =
     let length_at = at + length (padding 4 at) in
     let first = length_at + 4 + length (padding align (length_at + 4)) in
-    (items : List Value) × (v ≡ value.Array (codes kind) items) × Each endian said items first × (length (spellings endian items first) ≤ max_array)
+    (items : List Value) × (v ≡ make items) × Each endian said items first × (length (spellings endian items first) ≤ max_array)
 
 -- a value of a type by its one level, where what stands in it is said so
 abbrev pub IsOpen : Endian → (Kind → Said) → (Basic → Kind → Said) → Kind → Kind-F Kind → ℕ → Value → Type 0
 IsOpen endian said entry kind (Kind-F.Basic basic) at v = IsBasic basic v
 IsOpen endian said entry kind Kind-F.Variant at v =
     (text : List ℕ) × (inner : Kind) × (w : Value) × (v ≡ value.Variant text w) × SpellsType text inner × said inner (at + length (signature_spelling text)) w
-IsOpen endian said entry kind (Kind-F.Array element) at v = IsArray endian (alignment element) (said element) kind at v
-IsOpen endian said entry kind (Kind-F.Dict key inner) at v = IsArray endian 8 (entry key inner) kind at v
+IsOpen endian said entry kind (Kind-F.Array element) at v = IsArray endian (alignment element) (said element) (array_of element) at v
+IsOpen endian said entry kind (Kind-F.Dict key inner) at v = IsArray endian 8 (entry key inner) (value.Array (codes kind)) at v
 IsOpen endian said entry kind (Kind-F.Struct kinds) at v =
     (members : List Value) × (v ≡ value.Struct members) × (0 < length members) × Members endian said kinds members (at + length (padding 8 at))
 

@@ -2,7 +2,9 @@ pub mod Texts
 pub mod Fields
 pub mod Seen
 pub mod Alignment
+pub mod Packing
 pub mod Values
+pub mod Arrays
 pub mod Elements
 pub mod Spelling
 pub mod Fits

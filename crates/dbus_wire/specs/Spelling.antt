@@ -4,11 +4,14 @@ use Rattle.std.specs.Prelude.{ℕ, ◌+◌, Bool, true, false, List, [], ◌∷�
 use Rattle.std.specs.Int.{Width, w16, w32, w64, byte_len, to_le_bytes, to_be_bytes, cast_unsigned}
 use Rattle.dbus_wire.specs.declared.value.Endian.{Endian}
 use Rattle.dbus_wire.specs.declared.value.Endian.TheVariants.{Little, Big}
+use Rattle.dbus_wire.specs.declared.value.Packed.{Packed}
+use Rattle.dbus_wire.specs.declared.value.Packed.TheVariants as packed
 use Rattle.dbus_wire.specs.declared.value.Value.{Value}
 use Rattle.dbus_wire.specs.declared.value.Value.TheOpen.{Value-F}
 use Rattle.dbus_wire.specs.declared.value.Value.TheFolds.{fold-Value}
 use Rattle.dbus_wire.specs.Fields.{gap}
 use Rattle.dbus_wire.specs.Alignment.{element_alignment}
+use Rattle.dbus_wire.specs.Packing.{packed_codes}
 
 -- zeros up to the next multiple of an alignment ("Byte order and alignment")
 abbrev pub padding : (align at : ℕ) → List ℕ
@@ -52,6 +55,19 @@ counted endian align contents at =
 abbrev pub array_spelling : Endian → ℕ → (ℕ → List ℕ) → ℕ → List ℕ
 array_spelling endian align contents = behind_padding 4 (counted endian align contents)
 
+-- packed elements, each with its spelling
+abbrev pub packed_row : Endian → Packed → List (ℕ → List ℕ)
+packed_row endian (packed.Bytes ns) = map (λ n at. n ∷ []) ns
+packed_row endian (packed.Bools truths) = map (λ truth. aligned endian w32 (bit truth)) truths
+packed_row endian (packed.I16s ns) = map (λ n. aligned endian w16 (cast_unsigned w16 n)) ns
+packed_row endian (packed.U16s ns) = map (aligned endian w16) ns
+packed_row endian (packed.I32s ns) = map (λ n. aligned endian w32 (cast_unsigned w32 n)) ns
+packed_row endian (packed.U32s ns) = map (aligned endian w32) ns
+packed_row endian (packed.I64s ns) = map (λ n. aligned endian w64 (cast_unsigned w64 n)) ns
+packed_row endian (packed.U64s ns) = map (aligned endian w64) ns
+packed_row endian (packed.Doubles ns) = map (aligned endian w64) ns
+packed_row endian (packed.Fds ns) = map (aligned endian w32) ns
+
 -- one level of a value, with the spelling of each value in it ("Marshalling basic types"; "Marshalling containers" for
 -- ARRAY, STRUCT, DICT_ENTRY and VARIANT)
 abbrev pub spelling_step : Endian → Value-F (ℕ → List ℕ) → ℕ → List ℕ
@@ -68,6 +84,7 @@ spelling_step endian (Value-F.Str text) at = text_spelling endian text at
 spelling_step endian (Value-F.Path text) at = text_spelling endian text at
 spelling_step endian (Value-F.Sig codes) at = signature_spelling codes
 spelling_step endian (Value-F.Fd n) at = aligned endian w32 n at
+spelling_step endian (Value-F.Packed elements) at = array_spelling endian (element_alignment (packed_codes elements)) (in_row (packed_row endian elements)) at
 spelling_step endian (Value-F.Array codes items) at = array_spelling endian (element_alignment codes) (in_row items) at
 spelling_step endian (Value-F.Struct members) at = behind_padding 8 (in_row members) at
 spelling_step endian (Value-F.Pair key inner) at = behind_padding 8 (in_row (key ∷ inner ∷ [])) at

@@ -1,11 +1,12 @@
 -- The type of a value (D-Bus Specification, "Type System", its table of type codes).
 use Rattle.std.specs.Prelude.{ℕ, List, [], ◌∷◌, ◌++◌, map}
 use Rattle.dbus_signature.specs.Types.{joined}
+use Rattle.dbus_wire.specs.Packing.{packed_codes}
 use Rattle.dbus_wire.specs.declared.value.Value.{Value}
 use Rattle.dbus_wire.specs.declared.value.Value.TheOpen.{Value-F}
 use Rattle.dbus_wire.specs.declared.value.Value.TheFolds.{fold-Value}
 
--- One level of a value: the letter of a basic type, the array's own signature, `(`, the members, `)` for a struct, `{`, the
+-- One level of a value: the letter of a basic type, of an array `a` and the letter of its packed elements or its own signature, `(`, the members, `)` for a struct, `{`, the
 -- key, the value, `}` for an entry, and `v` for a variant.
 abbrev pub type_step : Value-F (List ℕ) → List ℕ
 type_step (Value-F.Byte n) = 121 ∷ []
@@ -21,6 +22,7 @@ type_step (Value-F.Str text) = 115 ∷ []
 type_step (Value-F.Path text) = 111 ∷ []
 type_step (Value-F.Sig codes) = 103 ∷ []
 type_step (Value-F.Fd n) = 104 ∷ []
+type_step (Value-F.Packed elements) = packed_codes elements
 type_step (Value-F.Array codes items) = codes
 type_step (Value-F.Struct members) = 40 ∷ joined members ++ 41 ∷ []
 type_step (Value-F.Pair key inner) = 123 ∷ key ++ (inner ++ 125 ∷ [])

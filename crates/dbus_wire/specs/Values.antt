@@ -14,6 +14,7 @@ use Rattle.dbus_wire.specs.declared.value.Value.{Value}
 use Rattle.dbus_wire.specs.declared.value.Value.TheVariants as value
 use Rattle.dbus_wire.specs.declared.strings.StringKind.TheVariants as string
 use Rattle.dbus_wire.specs.Alignment.{alignment}
+use Rattle.dbus_wire.specs.Packing.{array_of}
 use Rattle.dbus_wire.specs.Texts.{is_string}
 use Rattle.dbus_wire.specs.Fields.{aligned_at, bool_at, byte_at, number_at, padding_at, signature_at, text_at, type_at}
 
@@ -25,8 +26,8 @@ max_array = 67108864
 abbrev pub max_open : ℕ
 max_open = 64
 
--- the value that is made of what is read
-abbrev pub as_value : {A : Type 0} → (A → Value) → Read A → Read Value
+-- what is made of what is read
+abbrev pub as_value : {A B : Type 0} → (A → B) → Read A → Read B
 as_value make read = read >>= λ x. Ok (make x.0, x.1, x.2)
 
 -- a value that holds no others
@@ -46,7 +47,7 @@ basic_value_at endian basic.Sig at text = as_value value.Sig (signature_at at te
 basic_value_at endian basic.Fd at text = as_value value.Fd (aligned_at endian w32 at text)
 
 -- Items in a row, up to the end of the text. The number is at least that of the bytes left.
-unfoldable pub items_at : Reader Value → ℕ → Reader (List Value)
+unfoldable pub items_at : {A : Type 0} → Reader A → ℕ → Reader (List A)
 items_at item n at [] = Ok ([], at, [])
 items_at item zero at (c ∷ text) = Err at
 items_at item (suc n) at (c ∷ text) = do
@@ -55,10 +56,10 @@ items_at item (suc n) at (c ∷ text) = do
   Ok (first.0 ∷ others.0, others.1, others.2)
 
 -- The items in so many bytes. Where fewer are there, the end is at fault, behind the items before it.
-abbrev pub whole_items : ℕ → ℕ → List ℕ → List Value × ℕ × List ℕ → Read (List Value)
+abbrev pub whole_items : {A : Type 0} → ℕ → ℕ → List ℕ → A × ℕ × List ℕ → Read A
 whole_items n end text items = if nat_lt (length text) n then Err end else Ok (items.0, end, drop n text)
 
-unfoldable pub contents_at : Reader Value → ℕ → Reader (List Value)
+unfoldable pub contents_at : {A : Type 0} → Reader A → ℕ → Reader (List A)
 contents_at item n at text = do
   items ← items_at item (length (take n text)) at (take n text)
   whole_items n (at + length (take n text)) text items
@@ -67,7 +68,7 @@ contents_at item n at text = do
 abbrev pub within_limit : ℕ → ℕ × ℕ × List ℕ → Read ℕ
 within_limit place n = if nat_lt max_array n.0 then Err place else Ok n
 
-unfoldable pub array_at : Endian → ℕ → Reader Value → Reader (List Value)
+unfoldable pub array_at : {A : Type 0} → Endian → ℕ → Reader A → Reader (List A)
 array_at endian align item at text = do
   start ← padding_at 4 at text
   number ← number_at endian w32 start.1 start.2
@@ -108,7 +109,7 @@ pair_at endian key read at text = do
 abbrev pub value_by : Endian → (Kind → Reader Value) → (Basic → Kind → Reader Value) → Kind → Kind-F Kind → Reader Value
 value_by endian read entry kind (Kind-F.Basic basic) at text = basic_value_at endian basic at text
 value_by endian read entry kind Kind-F.Variant at text = variant_at read at text
-value_by endian read entry kind (Kind-F.Array element) at text = as_value (value.Array (codes kind)) (array_at endian (alignment element) (read element) at text)
+value_by endian read entry kind (Kind-F.Array element) at text = as_value (array_of element) (array_at endian (alignment element) (read element) at text)
 value_by endian read entry kind (Kind-F.Dict key inner) at text = as_value (value.Array (codes kind)) (array_at endian 8 (entry key inner) at text)
 value_by endian read entry kind (Kind-F.Struct members) at text = struct_at read members at text
 

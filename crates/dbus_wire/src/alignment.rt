@@ -1,9 +1,11 @@
 //! What values begin at a multiple of.
 
-ghost use Rattle.std.specs.Prelude.{◌≡◌, ◌<◌, ◌≤◌};
-ghost use Rattle.dbus_wire.specs.Alignment.{alignment, element_alignment, letter_alignment};
+ghost use Rattle.std.specs.Prelude.{◌≡◌, ◌<◌, ◌≤◌, ◌∷◌, []};
+ghost use Rattle.dbus_signature.specs.Types.{code};
+ghost use Rattle.dbus_signature.specs.declared.kind.Kind.TheVariants.{Basic as Plain};
+ghost use Rattle.dbus_wire.specs.Alignment.{alignment, codes_alignment, element_alignment, letter_alignment};
 
-use dbus_signature::Kind;
+use dbus_signature::{Basic, Kind};
 
 /// By the first letter of their type; None where a letter begins no type (D-Bus Specification, "Marshaling (Wire
 /// Format)").
@@ -19,6 +21,17 @@ fn letter_alignment(letter: u8) -> Option<usize>
     }
 }
 
+/// That of values of a basic type.
+#[tactic(auto, using(dbus_signature::proofs::KindLaws::spellings))]
+pub fn basic_alignment(basic: Basic) -> usize
+    ensures exact { result ≡ alignment (Plain basic) }
+    ensures letter { result ≡ codes_alignment (code basic ∷ []) }
+    ensures some { 0 < result }
+    ensures short { result ≤ 8 }
+{
+    letter_alignment(basic.code()).unwrap_or(1)
+}
+
 /// That of values of a type.
 #[tactic(auto, using(dbus_signature::proofs::KindLaws::spellings))]
 pub fn alignment(kind: &Kind) -> usize
@@ -26,7 +39,7 @@ pub fn alignment(kind: &Kind) -> usize
     ensures some { 0 < result }
 {
     match kind {
-        Kind::Basic(basic) => letter_alignment(basic.code()).unwrap_or(1),
+        Kind::Basic(basic) => basic_alignment(*basic),
         Kind::Variant => 1,
         Kind::Array(_) | Kind::Dict(_, _) => 4,
         Kind::Struct(_) => 8,

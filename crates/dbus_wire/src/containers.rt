@@ -10,16 +10,15 @@ ghost use Rattle.dbus_wire.specs.Values.{array_at, as_value, closed_value_at, co
 ghost use Rattle.dbus_wire.specs.declared.value.Value.TheVariants.{Array as array_value};
 
 use crate::alignment::alignment;
+use crate::arrays::head_at;
 use crate::basics::basic_value_at;
-use crate::fields::{padding_at, plain_u32_at};
+use crate::fields::padding_at;
+use crate::packed::{fixed_of, packed_at};
 use crate::strings::{front_of, type_at};
 use crate::value::{Endian, Value};
 use dbus_signature::{Basic, Cursor, Kind, Signature, WireError};
 use sqlite_items::{Boxed, Items};
 use std::alloc::Global;
-
-/// How many bytes an array may have (D-Bus Specification, "Marshalling containers").
-const MAX_ARRAY: usize = 67_108_864;
 
 /// How values are read: with which order of bytes, and how many containers may still be opened in one another.
 #[derive(Clone, Copy)]
@@ -108,7 +107,10 @@ fn open_value_at<'a>(
     match kind {
         Kind::Basic(basic) => basic_value_at(context.alloc, context.endian, *basic, from),
         Kind::Variant => variant_at(context, from),
-        Kind::Array(inner) => array_value_at(context, kind, Element::Whole(inner.get()), from),
+        Kind::Array(inner) => match fixed_of(inner.get()) {
+            Some(basic) => packed_at(context.alloc, context.endian, basic, from),
+            None => array_value_at(context, kind, Element::Whole(inner.get()), from),
+        },
         Kind::Dict(key, inner) => {
             array_value_at(context, kind, Element::Entry(*key, inner.get()), from)
         }
@@ -183,7 +185,7 @@ fn array_value_at<'a>(
 
 /// The length in bytes, the padding of the first item, and the items.
 #[cycle(value)]
-#[tactic(auto, unfolding(crate::specs::Values::array_at))]
+#[tactic(auto, using(crate::proofs::ArrayLaws::array_opens))]
 fn array_at<'a>(
     context: Context,
     element: Element<'_>,
@@ -192,13 +194,7 @@ fn array_at<'a>(
     requires { ElementIs element }
     ensures { Gives seen result (read_at (array_at context.endian (element_align element.entry) (element_at context.endian context.room element.entry)) from.entry) }
 {
-    let ((), start) = padding_at(4, from)?;
-    let (count, first) = plain_u32_at(context.endian, start)?;
-    let count = count as usize;
-    if count > MAX_ARRAY {
-        return Err(WireError::Bad(start.at));
-    }
-    let ((), first) = padding_at(element_align(element), first)?;
+    let (count, first) = head_at(context.endian, element_align(element), from)?;
     contents_at(context, count, element, first)
 }
 

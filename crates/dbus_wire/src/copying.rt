@@ -2,6 +2,7 @@
 
 ghost use Rattle.std.specs.Prelude.{◌≡◌, IfOk};
 
+use crate::packed::copy_packed;
 use crate::value::Value;
 use fw_base::{Memory, TryCopy};
 use sqlite_items::{Boxed, Items};
@@ -31,6 +32,7 @@ fn copy_value(alloc: Global, value: &Value) -> Result<Value, Memory>
         Value::Path(text) => Value::Path(text.copy(alloc)?),
         Value::Sig(signature) => Value::Sig(signature.copy(alloc)?),
         Value::Fd(number) => Value::Fd(*number),
+        Value::Packed(elements) => Value::Packed(copy_packed(alloc, elements)?),
         Value::Array(signature, items) => {
             let signature = signature.copy(alloc)?;
             Value::Array(signature, copy_all(alloc, items.as_slice())?)

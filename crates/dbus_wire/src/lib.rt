@@ -2,12 +2,15 @@
 #![tactic(auto)]
 
 mod alignment;
+mod arrays;
 mod basics;
 mod containers;
 mod copying;
 mod fields;
+mod fixed;
 mod laws;
 mod numbers;
+mod packed;
 mod read;
 mod showing;
 mod strings;
@@ -24,5 +27,5 @@ pub use laws::{
 pub use numbers::{push_padding, push_text, push_u32, set_u32};
 pub use read::{read_value, read_values};
 pub use typing::push_types;
-pub use value::{Endian, Value};
+pub use value::{Endian, Packed, Value};
 pub use writing::{push_values, write_value};

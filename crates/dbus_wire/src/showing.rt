@@ -1,6 +1,6 @@
 //! Values as text, for tests and messages to people.
 
-use crate::value::Value;
+use crate::value::{Packed, Value};
 use dbus_signature::Signature;
 use std::fmt;
 
@@ -26,6 +26,7 @@ fn show<W: fmt::Write>(value: &Value, f: &mut fmt::Formatter<W>) -> fmt::Result 
         Value::Str(text) => show_text("Str", text.as_str(), f),
         Value::Path(text) => show_text("Path", text.as_str(), f),
         Value::Sig(signature) => show_text("Sig", codes(signature), f),
+        Value::Packed(elements) => show_packed(elements, f),
         Value::Array(signature, items) => {
             show_text("Array", codes(signature), f)?;
             show_all(items.as_slice(), f)
@@ -46,6 +47,45 @@ fn show<W: fmt::Write>(value: &Value, f: &mut fmt::Formatter<W>) -> fmt::Result 
             show(inner.get(), f)
         }
     }
+}
+
+/// Packed elements, as the values that they are.
+fn show_packed<W: fmt::Write>(packed: &Packed, f: &mut fmt::Formatter<W>) -> fmt::Result {
+    match packed {
+        Packed::Bytes(bytes) => show_row("ay", "Byte", bytes.as_slice(), f),
+        Packed::Bools(truths) => show_row("ab", "Bool", truths.as_slice(), f),
+        Packed::I16s(numbers) => show_row("an", "I16", numbers.as_slice(), f),
+        Packed::U16s(numbers) => show_row("aq", "U16", numbers.as_slice(), f),
+        Packed::I32s(numbers) => show_row("ai", "I32", numbers.as_slice(), f),
+        Packed::U32s(numbers) => show_row("au", "U32", numbers.as_slice(), f),
+        Packed::I64s(numbers) => show_row("ax", "I64", numbers.as_slice(), f),
+        Packed::U64s(numbers) => show_row("at", "U64", numbers.as_slice(), f),
+        Packed::Doubles(bits) => show_bits(bits.as_slice(), f),
+        Packed::Fds(numbers) => show_row("ah", "Fd", numbers.as_slice(), f),
+    }
+}
+
+/// Numbers one after the other, each behind its word, in brackets.
+fn show_row<T: fmt::Display, W: fmt::Write>(
+    codes: &str,
+    word: &str,
+    numbers: &[T],
+    f: &mut fmt::Formatter<W>,
+) -> fmt::Result {
+    write!(f, "Array({codes}) [")?;
+    for number in numbers {
+        write!(f, "{word}({number});")?;
+    }
+    write!(f, "]")
+}
+
+/// The bits of doubles one after the other, in brackets.
+fn show_bits<W: fmt::Write>(bits: &[u64], f: &mut fmt::Formatter<W>) -> fmt::Result {
+    write!(f, "Array(ad) [")?;
+    for double in bits {
+        write!(f, "Double({double:#x});")?;
+    }
+    write!(f, "]")
 }
 
 /// Values one after the other, in brackets.

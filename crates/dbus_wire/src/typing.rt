@@ -28,6 +28,10 @@ fn push_type(out: &mut Vec<u8>, value: &Value) -> Result<(), Memory>
         Value::Path(_) => out.push(b'o')?,
         Value::Sig(_) => out.push(b'g')?,
         Value::Fd(_) => out.push(b'h')?,
+        Value::Packed(elements) => {
+            out.push(b'a')?;
+            out.push(elements.basic().code())?;
+        }
         Value::Array(signature, _) => out.extend_from_slice(signature.as_bytes())?,
         Value::Struct(members) => {
             out.push(b'(')?;

@@ -11,6 +11,23 @@ pub enum Endian {
     Big,
 }
 
+/// The elements of an array of a fixed basic type, packed: numbers in a row, each in as much memory as its type needs.
+#[derive(Drop)]
+pub enum Packed {
+    Bytes(Items<u8>),
+    Bools(Items<bool>),
+    I16s(Items<i16>),
+    U16s(Items<u16>),
+    I32s(Items<i32>),
+    U32s(Items<u32>),
+    I64s(Items<i64>),
+    U64s(Items<u64>),
+    /// The bits of IEEE 754 doubles.
+    Doubles(Items<u64>),
+    /// Indexes into the file descriptors that come with a message.
+    Fds(Items<u32>),
+}
+
 /// A value of some type.
 #[derive(Drop)]
 pub enum Value {
@@ -30,7 +47,9 @@ pub enum Value {
     Sig(Signature),
     /// An index into the file descriptors that come with a message.
     Fd(u32),
-    /// The type of the array, as `as` or `a{sv}`, and its elements.
+    /// An array of a fixed basic type, as `ay`.
+    Packed(Packed),
+    /// An array of any other type: its type, as `as` or `a{sv}`, and its elements.
     Array(Signature, Items<Value>),
     Struct(Items<Value>),
     /// An entry of a dict: its key and its value.

@@ -4,14 +4,15 @@ ghost use Rattle.std.specs.Prelude.{◌≡◌, ◌<◌, ◌≤◌, ◌-◌, ◌^
 ghost use Rattle.dbus_signature.specs.declared.kind.Kind.{Kind};
 ghost use Rattle.dbus_wire.specs.Appending.{Keeps};
 ghost use Rattle.dbus_wire.specs.Fits.{Fits, HasSpelling, Spells};
-ghost use Rattle.dbus_wire.specs.Spelling.{array_spelling, spelling, spellings};
+ghost use Rattle.dbus_wire.specs.Spelling.{array_spelling, in_row, packed_row, spelling, spellings};
 ghost use Rattle.dbus_wire.specs.Values.{max_open};
 
-use crate::alignment::element_alignment;
+use crate::alignment::{basic_alignment, element_alignment};
 use crate::numbers::{
     push_padding, push_signature, push_text, push_u16, push_u32, push_u64, set_u32,
 };
-use crate::value::{Endian, Value};
+use crate::packed::push_elements;
+use crate::value::{Endian, Packed, Value};
 use fw_base::Memory;
 
 /// Appends the spelling of a value at the offset where the bytes end, which counts from the origin.
@@ -40,6 +41,10 @@ fn push_value(out: &mut Vec<u8>, origin: usize, endian: Endian, value: &Value) -
         Value::Str(text) => push_text(out, origin, endian, text.as_str()),
         Value::Path(text) => push_text(out, origin, endian, text.as_str()),
         Value::Sig(signature) => push_signature(out, signature.as_bytes()),
+        Value::Packed(elements) => {
+            let align = basic_alignment(elements.basic());
+            push_packed(out, origin, endian, align, elements)
+        }
         Value::Array(signature, items) => {
             let align = element_alignment(signature.as_bytes());
             push_array(out, origin, endian, align, items.as_slice())
@@ -104,6 +109,33 @@ fn push_array(
     push_padding(out, origin, align)?;
     let start = out.len();
     push_values(out, origin, endian, values)?;
+    let count = (out.len() - start) as u32;
+    set_u32(out, place, endian, count);
+    Ok(())
+}
+
+/// Appends an array of packed elements that are aligned so: its length in bytes, padding, and the elements.
+#[tactic(auto, using(crate::proofs::KeepsLaws::keeping))]
+fn push_packed(
+    out: &mut Vec<u8>,
+    origin: usize,
+    endian: Endian,
+    align: usize,
+    elements: &Packed,
+) -> Result<(), Memory>
+    requires origin { origin ≤ length out.old.items }
+    requires some { 0 < align }
+    requires aligned { align ≤ 8 }
+    requires short { length (array_spelling endian align (in_row (packed_row endian elements.now)) (length out.old.items - origin)) < 2 ^ 32 }
+    ensures ok { OnOk result (out.new.items ≡ out.old.items ++ array_spelling endian align (in_row (packed_row endian elements.now)) (length out.old.items - origin)) }
+    ensures err { OnErr result (Keeps out.old.items out.new.items) }
+{
+    push_padding(out, origin, 4)?;
+    let place = out.len();
+    out.extend_from_slice(&[0; 4])?;
+    push_padding(out, origin, align)?;
+    let start = out.len();
+    push_elements(out, origin, endian, elements)?;
     let count = (out.len() - start) as u32;
     set_u32(out, place, endian, count);
     Ok(())

@@ -1,9 +1,12 @@
-use Rattle.std.proofs.Common.{rules, sym, ◌∙◌}
+use Rattle.std.proofs.Common.{rules, sym, subst, ◌∙◌}
 use Rattle.std.proofs.lemmas.Bool.{eqb-true, eqb-false}
 use Rattle.std.proofs.lemmas.Result.{err_from_is_err_and}
 use Rattle.dbus_signature.proofs.Inner.{element_is, value_is, members_is}
+use Rattle.dbus_signature.specs.declared.kind.Kind.{Kind}
+use Rattle.dbus_wire.specs.Arrays.{IsFixed, IsOther}
 use Rattle.dbus_wire.specs.Elements.{element_at}
 use Rattle.dbus_wire.specs.Values.{value_at}
+use Rattle.dbus_wire.proofs.ArrayLaws.{fixed_opens, other_opens}
 use Rattle.dbus_wire.proofs.ValueLaws.{entry_closed, some_left, none_left, items_go_on, items_end, items_done, items_left, members_go_on, members_end, members_done}
 use Rattle.dbus_wire.proofs.containers.+value.Goals as goal
 use Rattle.dbus_wire.proofs.containers.+value.Goals.{items_at-else-loop-test, items_at-then-loop-test+then-is_empty}
@@ -46,7 +49,17 @@ members_at-returns t c =
 
 pub open_value_at-array_value_at-requires : goal.open_value_at-array_value_at-requires
 open_value_at-array_value_at-requires t c =
-    (search rules, (c.requires, rw c.get.ensures (element_is c.in-Array.inner (rw c.in-Array.is at c.requires))))
+    (search rules, (c.requires, rw c.get-in-None.ensures (element_is c.in-Array.inner (rw c.in-Array.is at c.requires))))
+
+pub open_value_at-returns-in-Some : goal.open_value_at-returns-in-Some
+open_value_at-returns-in-Some t c =
+    rw (fixed_opens c.args.context.endian c.args.context.room c.args.kind.now c.in-Array.inner c.in-Some.basic c.args.from.at c.args.from.rest.now c.in-Array.is (subst (λ (k : Kind). IsFixed k c.in-Some.basic) c.get.ensures c.in-Some.ensures))
+    c.packed_at.ensures
+
+pub open_value_at-returns-in-None : goal.open_value_at-returns-in-None
+open_value_at-returns-in-None t c =
+    rw (other_opens c.args.context.endian c.args.context.room c.args.kind.now c.in-Array.inner c.args.from.at c.args.from.rest.now c.in-Array.is (subst IsOther c.get.ensures c.in-None.ensures))
+    (rw c.get-in-None.ensures at c.array_value_at.ensures)
 
 pub open_value_at-array_value_at-requires-in-Dict :
     goal.open_value_at-array_value_at-requires-in-Dict
