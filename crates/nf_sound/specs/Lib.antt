@@ -1,0 +1,4 @@
+pub mod Links
+pub mod Names
+pub mod Sound
+pub mod Targets

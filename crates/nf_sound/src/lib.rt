@@ -1,0 +1,11 @@
+//! Which rulesets are sound: what their rules name is there, once, in order, and leads nowhere without end.
+#![tactic(auto)]
+
+mod links;
+mod named;
+mod sound;
+mod stands;
+mod target;
+
+pub use named::chain_called;
+pub use sound::is_sound;
