@@ -46,11 +46,14 @@ impl Model for Decoder {
     ghost view = { λ decoder. record { bytes = decoder.kept.items; place = decoder.place; end = decoder.end } };
 }
 
-/// Takes so many bytes off the front.
+/// Takes so many bytes off the front. Where it takes none, none is moved.
 fn drop_front(bytes: &mut Vec<u8>, count: usize)
     requires { count ≤ length bytes.old.items }
     ensures { bytes.new.items ≡ drop count bytes.old.items }
 {
+    if count == 0 {
+        return;
+    }
     let len = bytes.as_slice().len();
     bytes.copy_within(count..len, 0);
     bytes.truncate(len - count);

@@ -13,9 +13,7 @@ mod writing;
 
 pub use decoder::{Decoder, Fed, FeedEnd};
 pub use header::{Header, read_header};
-pub use laws::{
-    a_stream_is_cut_in_one_way, pieces_make_no_difference, written_comes_next,
-};
+pub use laws::{a_stream_is_cut_in_one_way, pieces_make_no_difference, written_comes_next};
 pub use message::{Fields, Message};
 pub use names::{is_bus_name, is_interface, is_member};
 pub use reading::read_message;
