@@ -52,15 +52,9 @@ fn with_rule(alloc: Global, sum: u64, text: &str) -> Result<u64> {
 /// The checksum of that many rules, in turn.
 fn checksum(alloc: Global, count: u64) -> Result<u64> {
     let mut sum = 0;
-    let mut left = count;
-    while left > 0 {
-        for text in TEXTS {
-            if left == 0 {
-                break;
-            }
-            sum = with_rule(alloc, sum, text)?;
-            left -= 1;
-        }
+    for place in 0..count {
+        let text = TEXTS[(place % 20) as usize];
+        sum = with_rule(alloc, sum, text)?;
     }
     Ok(sum)
 }

@@ -9,24 +9,42 @@ use fw_rich::{RichError, print_rich, read_rich};
 use std::alloc::Global;
 
 fn main(rt: HostRuntime) -> Result<()> {
-    let alloc = rt.alloc();
-    for line in rt.lines(alloc) {
-        match read_rich(alloc, line?.as_str()) {
-            Ok(rule) => {
-                let text = print_rich(alloc, &rule)?;
-                if is_read_back(alloc, &rule, text.as_str()) {
-                    println!(rt; "{}", text.as_str())?;
-                } else {
-                    println!(rt; "not read back: {}", text.as_str())?;
-                }
-            }
-            Err(RichError::Rule(offset)) => println!(rt; "INVALID_RULE {offset}")?,
-            Err(RichError::Part(code, offset)) => println!(rt; "{} {offset}", code.name())?,
-            Err(RichError::MissingFamily) => println!(rt; "MISSING_FAMILY")?,
-            Err(RichError::Memory) => println!(rt; "out of memory")?,
-        }
+    for line in rt.lines(rt.alloc()) {
+        let answer = answer_to(rt.alloc(), line?.as_str())?;
+        println!(rt; "{answer}")?;
     }
     Ok(())
+}
+
+/// What a line says.
+fn answer_to(alloc: Global, line: &str) -> Result<String> {
+    match read_rich(alloc, line) {
+        Ok(rule) => canonical(alloc, &rule),
+        Err(refusal) => refused(alloc, refusal),
+    }
+}
+
+fn refused(alloc: Global, refusal: RichError) -> Result<String> {
+    let text = match refusal {
+        RichError::Rule(offset) => format!(in alloc; "INVALID_RULE {offset}")?,
+        RichError::Part(code, offset) => {
+            let name = code.name();
+            format!(in alloc; "{name} {offset}")?
+        }
+        RichError::MissingFamily => format!(in alloc; "MISSING_FAMILY")?,
+        RichError::Memory => format!(in alloc; "out of memory")?,
+    };
+    Ok(text)
+}
+
+fn canonical(alloc: Global, rule: &Rich) -> Result<String> {
+    let text = print_rich(alloc, rule)?;
+    let text = text.as_str();
+    if is_read_back(alloc, rule, text) {
+        Ok(format!(in alloc; "{text}")?)
+    } else {
+        Ok(format!(in alloc; "not read back: {text}")?)
+    }
 }
 
 /// Whether a text reads as a rule.
