@@ -108,7 +108,7 @@ found_from name_of name items (Err place) all within found =
       | inr behind ↦ behind_other (name_of (get_or items k d)) name (parts.1 k d behind here)
     ])
 
-pick : {T : Type 0} (test : Bool) (first item : T) (rest : Option T) → cond test (Some first) rest ≡ Some item → ((test ≡ true) × (first ≡ item)) ⊎ (rest ≡ Some item)
+pub pick : {T : Type 0} (test : Bool) (first item : T) (rest : Option T) → cond test (Some first) rest ≡ Some item → ((test ≡ true) × (first ≡ item)) ⊎ (rest ≡ Some item)
 pick true first item rest is = inl (refl, cc)
 pick false first item rest is = inr is
 

@@ -16,12 +16,12 @@ use Rattle.nf_sound.specs.Sound.Path.{stays, link}
 use Rattle.nf_sound.specs.Targets.{rule_targets}
 
 -- what is in one list is in both joined, and the other way round
-in_front : (name : List ℕ) (xs ys : List (List ℕ)) → IsIn name xs → IsIn name (xs ++ ys)
+pub in_front : (name : List ℕ) (xs ys : List (List ℕ)) → IsIn name xs → IsIn name (xs ++ ys)
 in_front name [] ys is = absurd is
 in_front name (x ∷ xs) ys (inl here) = inl here
 in_front name (x ∷ xs) ys (inr is) = inr (in_front name xs ys is)
 
-behind : (name : List ℕ) (xs ys : List (List ℕ)) → IsIn name ys → IsIn name (xs ++ ys)
+pub behind : (name : List ℕ) (xs ys : List (List ℕ)) → IsIn name ys → IsIn name (xs ++ ys)
 behind name [] ys is = is
 behind name (x ∷ xs) ys is = inr (behind name xs ys is)
 

@@ -7,5 +7,6 @@ mod sound;
 mod stands;
 mod target;
 
+pub use links::MAX_LINKS;
 pub use named::chain_called;
 pub use sound::is_sound;

@@ -1,0 +1,8 @@
+-- What the way tells is the verdict.
+use Rattle.std.proofs.Common.{None}
+use Rattle.nf_chains.proofs.Outcomes.{verdict_told}
+use Rattle.nf_chains.proofs.evaluation.verdict_from.Goals as goal
+
+pub returns : goal.returns
+returns g c =
+    verdict_told c.args.rules.now c.args.packet.now c.in-Ok.verdict None c.evaluated.new.journal c.of-steps.result c.evaluated.new.steps c.requires.filters c.in-Ok.ensures
