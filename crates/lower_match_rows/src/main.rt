@@ -2,8 +2,7 @@
 //! a service with everything. The file stdout beside src/ was written by hand from nft(8)'s forms.
 #![tactic(auto)]
 
-ghost use Rattle.std.specs.Prelude.{◌≤◌, IsTrue};
-ghost use Rattle.lower_match.specs.Lowers.{is_plain};
+ghost use Rattle.std.specs.Prelude.{◌≤◌};
 
 mod services;
 
@@ -88,9 +87,7 @@ fn chain(
     name: &str,
     setting: &Setting,
     services: &[Service],
-) -> Result<Chain, Memory>
-    requires { IsTrue (is_plain setting.now) }
-{
+) -> Result<Chain, Memory> {
     let mut rules = Seq::new(alloc);
     let alternatives = matches_of(alloc, setting, services, &[])?;
     for matches in alternatives.into_vec() {
