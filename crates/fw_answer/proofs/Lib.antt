@@ -2,3 +2,4 @@ pub mod Equality
 pub mod Found
 pub mod Items
 pub mod Places
+pub mod Rules

@@ -9,7 +9,9 @@ use Rattle.fw_model.specs.declared.binding.Binding.{Binding}
 use Rattle.fw_model.specs.declared.binding.Binding.TheVariants.{Net, Mac, Set}
 use Rattle.fw_model.specs.declared.ipset.Item.{Item}
 use Rattle.fw_model.specs.declared.ipset.Item.TheVariants as item
+use Rattle.fw_model.specs.contracts.rich.RichPartialEq.TheImpl as rich
 use Rattle.fw_model.specs.declared.port.Port.{Port}
+use Rattle.fw_model.specs.declared.rich.Rich.{Rich}
 
 -- the same range of the same protocol
 abbrev pub same_port : Port → Port → Bool
@@ -45,3 +47,7 @@ same_item (item.Net one) (item.Net other) = same_net one other
 same_item (item.Net one) (item.Mac other) = false
 same_item (item.Mac one) (item.Net other) = false
 same_item (item.Mac one) (item.Mac other) = one == other
+
+-- the same rich rule, part by part, as `==` says
+abbrev pub same_rule : Rich → Rich → Bool
+same_rule = (rich.ghosts).eq

@@ -45,6 +45,9 @@ setting_words kind.IcmpBlock words = do
 setting_words kind.Service words = do
   name ← next words
   Some (setting.Service name.0, name.1)
+setting_words kind.RichRule words = do
+  rule ← next words
+  Some (setting.RichRule rule.0, rule.1)
 
 -- the timeout of a setting that is added: none, as the number 0
 abbrev pub timeout : Verb → List (List ℕ) → Option (List (List ℕ))

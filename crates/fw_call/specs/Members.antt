@@ -25,6 +25,9 @@ setting_members =
     (codes "zone.addService", Setting Add kind.Service) ∷
     (codes "zone.removeService", Setting Remove kind.Service) ∷
     (codes "zone.queryService", Setting Query kind.Service) ∷
+    (codes "zone.addRichRule", Setting Add kind.RichRule) ∷
+    (codes "zone.removeRichRule", Setting Remove kind.RichRule) ∷
+    (codes "zone.queryRichRule", Setting Query kind.RichRule) ∷
     (codes "zone.addIcmpBlockInversion", Inversion Add) ∷
     (codes "zone.removeIcmpBlockInversion", Inversion Remove) ∷
     (codes "zone.queryIcmpBlockInversion", Inversion Query) ∷

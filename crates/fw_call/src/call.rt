@@ -55,6 +55,7 @@ pub enum SettingWords {
     Protocol { protocol: Text },
     IcmpBlock { name: Text },
     Service { name: Text },
+    RichRule { rule: Text },
 }
 
 /// An interface or a source as a call's argument names it.

@@ -139,6 +139,12 @@ fn read_setting(
                 name: Text::of(alloc, name)?,
             })
         }
+        SettingKind::RichRule => {
+            let rule = words.next()?;
+            Ok(SettingWords::RichRule {
+                rule: Text::of(alloc, rule)?,
+            })
+        }
     }
 }
 

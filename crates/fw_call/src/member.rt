@@ -19,6 +19,7 @@ pub enum SettingKind {
     Protocol,
     IcmpBlock,
     Service,
+    RichRule,
 }
 
 /// What binds packets to a zone.
@@ -93,6 +94,9 @@ fn setting_member(name: &str) -> Option<Member>
         "zone.addService" => Some(Member::Setting(Verb::Add, SettingKind::Service)),
         "zone.removeService" => Some(Member::Setting(Verb::Remove, SettingKind::Service)),
         "zone.queryService" => Some(Member::Setting(Verb::Query, SettingKind::Service)),
+        "zone.addRichRule" => Some(Member::Setting(Verb::Add, SettingKind::RichRule)),
+        "zone.removeRichRule" => Some(Member::Setting(Verb::Remove, SettingKind::RichRule)),
+        "zone.queryRichRule" => Some(Member::Setting(Verb::Query, SettingKind::RichRule)),
         "zone.addIcmpBlockInversion" => Some(Member::Inversion(Verb::Add)),
         "zone.removeIcmpBlockInversion" => Some(Member::Inversion(Verb::Remove)),
         "zone.queryIcmpBlockInversion" => Some(Member::Inversion(Verb::Query)),

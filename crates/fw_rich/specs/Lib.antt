@@ -4,6 +4,7 @@ pub mod Names
 pub mod Numbers
 pub mod Reading
 pub mod Refusals
+pub mod Refused
 pub mod Rich
 pub mod Tokens
 pub mod Values

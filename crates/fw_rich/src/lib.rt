@@ -18,3 +18,4 @@ mod values;
 pub use error::RichError;
 pub use print::{print_rich, push_rich};
 pub use read::read_rich;
+pub use token::refused_value;

@@ -1,6 +1,7 @@
 //! The token at the front of a text.
 ghost use Rattle.std.specs.Prelude.{◌≡◌, ◌<◌, ◌≤◌, Some, None, MatchOption, length};
 ghost use Rattle.std.specs.Option.{option_and_then};
+ghost use Rattle.fw_rich.specs.Refused.{at_character, plain_value, refused_value};
 ghost use Rattle.fw_rich.specs.Tokens.{Token, at_gap, bare, cut_at, is_gap, next_token, pair, quoted, token_front, token_of, value_front, up_to, word};
 
 use super::bytes::{are_bare, are_plain, behind_first, is_quote, split_bare, split_key};
@@ -162,5 +163,27 @@ pub fn next_token(size: usize, text: &str) -> Option<TokenFront<'_>>
             token: word(size - text.len(), ""),
             left: "",
         }),
+    }
+}
+
+/// The value that begins at this byte of a text, without its quotes, or a word there: what a refusal of a rule's part names
+/// (`RichError::Part`). It is empty where no value begins there.
+#[tactic(auto, using(crate::proofs::Refused::at_boundary, crate::proofs::Refused::off_boundary))]
+pub fn refused_value(text: &str, place: usize) -> &str
+    ensures { result.now ≡ refused_value text.now place }
+{
+    match text.split_at_checked(place) {
+        Some((_, behind)) => plain_value(behind),
+        None => "",
+    }
+}
+
+/// The value at the front of a text, without its quotes.
+fn plain_value(text: &str) -> &str
+    ensures { result.now ≡ plain_value (value_front text.now) }
+{
+    match value_front(text) {
+        Some(front) => front.text,
+        None => "",
     }
 }

@@ -51,6 +51,10 @@ pub enum SignalKind {
     ZoneServiceAdded,
     /// `ServiceRemoved`: zone, service.
     ZoneServiceRemoved,
+    /// `RichRuleAdded`: zone, rule, timeout.
+    ZoneRichRuleAdded,
+    /// `RichRuleRemoved`: zone, rule.
+    ZoneRichRuleRemoved,
     /// `IcmpBlockInversionAdded`: zone.
     ZoneIcmpBlockInversionAdded,
     /// `IcmpBlockInversionRemoved`: zone.
@@ -106,6 +110,8 @@ impl SignalKind {
             SignalKind::ZoneIcmpBlockRemoved => "zone.IcmpBlockRemoved",
             SignalKind::ZoneServiceAdded => "zone.ServiceAdded",
             SignalKind::ZoneServiceRemoved => "zone.ServiceRemoved",
+            SignalKind::ZoneRichRuleAdded => "zone.RichRuleAdded",
+            SignalKind::ZoneRichRuleRemoved => "zone.RichRuleRemoved",
             SignalKind::ZoneIcmpBlockInversionAdded => "zone.IcmpBlockInversionAdded",
             SignalKind::ZoneIcmpBlockInversionRemoved => "zone.IcmpBlockInversionRemoved",
             SignalKind::ZoneInterfaceAdded => "zone.InterfaceAdded",

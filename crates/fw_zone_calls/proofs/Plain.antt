@@ -13,7 +13,8 @@ use Rattle.fw_zone.specs.declared.settings.AddError.TheVariants as add
 use Rattle.fw_zone.specs.declared.settings.NotEnabled.{NotEnabled}
 use Rattle.fw_answer.proofs.Equality as equality
 use Rattle.fw_answer.proofs.Items.{is_in_decides, removed_is_without}
-use Rattle.fw_answer.specs.Equal.{same_port}
+use Rattle.fw_answer.proofs.Rules.{same_rules}
+use Rattle.fw_answer.specs.Equal.{same_port, same_rule}
 use Rattle.fw_answer.specs.Refusals.{Edits}
 use Rattle.fw_zone_calls.specs.Settings.{added, has, removed, whole, with_one, without_one}
 use Rattle.fw_zone_calls.specs.Settled.{settled_add, settled_remove}
@@ -27,6 +28,7 @@ has_decides rules (plain.SourcePort port) = is_in_decides same_port equality.por
 has_decides rules (plain.Protocol protocol) = is_in_decides nat_eq equality.numbers protocol rules.protocols
 has_decides rules (plain.IcmpBlock name) = is_in_decides bytes_eq equality.texts name rules.icmp_blocks
 has_decides rules (plain.Service name) = is_in_decides bytes_eq equality.texts name rules.services
+has_decides rules (plain.Rich rule) = is_in_decides same_rule same_rules rule rules.rich
 
 pub has_is : (rules : Rules) (setting : PlainSetting) (result : Bool) → (IsTrue result ↔ Has rules (whole setting)) → result ≡ has rules setting
 has_is rules setting true is = sym ((has_decides rules setting).1 (is.0 refl))
@@ -45,6 +47,7 @@ with_is rules (plain.SourcePort port) = refl
 with_is rules (plain.Protocol protocol) = refl
 with_is rules (plain.IcmpBlock name) = refl
 with_is rules (plain.Service name) = refl
+with_is rules (plain.Rich rule) = refl
 
 -- a setting less
 pub without_is : (old new : Rules) (setting : PlainSetting) → IsWithout old (whole setting) new → new ≡ without_one old setting
@@ -58,6 +61,8 @@ without_is old new (plain.IcmpBlock name) (left, gone, is) =
     is ∙ ap (λ items. record old { icmp_blocks = items }) (removed_is_without bytes_eq equality.texts name old.icmp_blocks left gone)
 without_is old new (plain.Service name) (left, gone, is) =
     is ∙ ap (λ items. record old { services = items }) (removed_is_without bytes_eq equality.texts name old.services left gone)
+without_is old new (plain.Rich rule) (left, gone, is) =
+    is ∙ ap (λ items. record old { rich = items }) (removed_is_without same_rule same_rules rule old.rich left gone)
 
 true_from : (b : Bool) → ¬ (b ≡ false) → b ≡ true
 true_from true differs = refl

@@ -98,7 +98,7 @@ zone_of_call config word = do
   Ok (with_value config (value.Text (holder (find (lists entry) config.zones))))
 
 unfoldable pub call_answered : Config → ZoneCall → Result (Answered Config) Refusal
-call_answered config (call.Setting verb zone words) = in_zone config zone (λ found. setting_call config.services found verb words)
+call_answered config (call.Setting verb zone words) = in_zone config zone (λ found. setting_call config.services config.ipsets found verb words)
 call_answered config (call.Inversion verb zone) = in_zone config zone (λ found. inversion_call found verb)
 call_answered config (call.Binding verb zone word) = binding_call config verb zone word
 call_answered config (call.ChangeZone zone word) = change_zone_call config zone word

@@ -2,6 +2,7 @@ pub mod Active
 pub mod Calls
 pub mod Entries
 pub mod Inversion
+pub mod RichRules
 pub mod Settings
 pub mod Settled
 pub mod Told

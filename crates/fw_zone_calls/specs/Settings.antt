@@ -11,12 +11,14 @@ use Rattle.fw_call.specs.declared.member.Verb.{Verb}
 use Rattle.fw_call.specs.declared.member.Verb.TheVariants as verb
 use Rattle.fw_model.specs.declared.code.Code.{Code}
 use Rattle.fw_model.specs.declared.code.Code.TheVariants as code
+use Rattle.fw_model.specs.declared.ipset.IpSet.{IpSet}
 use Rattle.fw_model.specs.declared.port.Port.{Port}
 use Rattle.fw_model.specs.declared.rules.Rules.{Rules}
 use Rattle.fw_model.specs.declared.service.Service.{Service}
 use Rattle.fw_model.specs.declared.setting.Setting.{Setting}
 use Rattle.fw_model.specs.declared.setting.Setting.TheVariants as setting
 use Rattle.fw_model.specs.declared.zone.Zone.{Zone}
+use Rattle.fw_rich.specs.Canonical.{canon}
 use Rattle.fw_service.specs.Known.{is_known}
 use Rattle.fw_told.specs.declared.told.Reply.TheVariants as reply
 use Rattle.fw_told.specs.declared.told.Signal.{Signal}
@@ -24,10 +26,11 @@ use Rattle.fw_told.specs.declared.told.SignalKind.{SignalKind}
 use Rattle.fw_told.specs.declared.told.SignalKind.TheVariants as signal
 use Rattle.fw_told.specs.declared.told.Value.{Value}
 use Rattle.fw_told.specs.declared.told.Value.TheVariants as value
-use Rattle.fw_answer.specs.Equal.{same_port}
+use Rattle.fw_answer.specs.Equal.{same_port, same_rule}
 use Rattle.fw_answer.specs.Lists.{is_in, without}
 use Rattle.fw_answer.specs.Refusals.{Answered, ◌>>=◌, refused, refused_as, result_and_then}
 use Rattle.fw_answer.specs.declared.refusal.Refusal.{Refusal}
+use Rattle.fw_zone_calls.specs.RichRules.{rule_of}
 use Rattle.fw_zone_calls.specs.declared.setting.PlainSetting.{PlainSetting}
 use Rattle.fw_zone_calls.specs.declared.setting.PlainSetting.TheVariants as plain
 
@@ -48,17 +51,21 @@ abbrev pub protocol_from : (protocol : List ℕ) → Option ℕ → Result Plain
 protocol_from protocol None = refused code.InvalidProtocol protocol
 protocol_from protocol (Some number) = Ok (plain.Protocol number)
 
--- the setting that a call's arguments spell, or the first refusal; a service is one of the configuration's
-abbrev pub setting_of : List Service → SettingWords → Result PlainSetting Refusal
-setting_of services (words.Port port protocol) = do
+-- the setting that a call's arguments spell, or the first refusal; a service is one of the configuration's, and so are those
+-- and the ipsets of a rule
+abbrev pub setting_of : List Service → List IpSet → SettingWords → Result PlainSetting Refusal
+setting_of services ipsets (words.Port port protocol) = do
   port ← port_of port protocol
   Ok (plain.Port port)
-setting_of services (words.SourcePort port protocol) = do
+setting_of services ipsets (words.SourcePort port protocol) = do
   port ← port_of port protocol
   Ok (plain.SourcePort port)
-setting_of services (words.Protocol protocol) = protocol_from protocol (proto protocol)
-setting_of services (words.IcmpBlock name) = if is_some (icmp name) then Ok (plain.IcmpBlock name) else refused code.InvalidIcmptype name
-setting_of services (words.Service name) = if is_known services name then Ok (plain.Service name) else refused code.InvalidService name
+setting_of services ipsets (words.Protocol protocol) = protocol_from protocol (proto protocol)
+setting_of services ipsets (words.IcmpBlock name) = if is_some (icmp name) then Ok (plain.IcmpBlock name) else refused code.InvalidIcmptype name
+setting_of services ipsets (words.Service name) = if is_known services name then Ok (plain.Service name) else refused code.InvalidService name
+setting_of services ipsets (words.RichRule text) = do
+  rule ← rule_of services ipsets text
+  Ok (plain.Rich rule)
 
 -- the setting of a record of settings that is meant
 abbrev pub whole : PlainSetting → Setting
@@ -67,6 +74,7 @@ whole (plain.SourcePort port) = setting.SourcePort port
 whole (plain.Protocol protocol) = setting.Protocol protocol
 whole (plain.IcmpBlock name) = setting.IcmpBlock name
 whole (plain.Service name) = setting.Service name
+whole (plain.Rich rule) = setting.Rich rule
 
 -- whether a zone has a setting
 abbrev pub has : Rules → PlainSetting → Bool
@@ -75,6 +83,7 @@ has rules (plain.SourcePort port) = is_in same_port port rules.source_ports
 has rules (plain.Protocol protocol) = is_in nat_eq protocol rules.protocols
 has rules (plain.IcmpBlock name) = is_in bytes_eq name rules.icmp_blocks
 has rules (plain.Service name) = is_in bytes_eq name rules.services
+has rules (plain.Rich rule) = is_in same_rule rule rules.rich
 
 -- the settings with one more, the last of its list
 abbrev pub with_one : Rules → PlainSetting → Rules
@@ -83,6 +92,7 @@ with_one rules (plain.SourcePort port) = record rules { source_ports = rules.sou
 with_one rules (plain.Protocol protocol) = record rules { protocols = rules.protocols ++ protocol ∷ [] }
 with_one rules (plain.IcmpBlock name) = record rules { icmp_blocks = rules.icmp_blocks ++ name ∷ [] }
 with_one rules (plain.Service name) = record rules { services = rules.services ++ name ∷ [] }
+with_one rules (plain.Rich rule) = record rules { rich = rules.rich ++ rule ∷ [] }
 
 -- the settings without one
 abbrev pub without_one : Rules → PlainSetting → Rules
@@ -91,6 +101,7 @@ without_one rules (plain.SourcePort port) = record rules { source_ports = withou
 without_one rules (plain.Protocol protocol) = record rules { protocols = without nat_eq protocol rules.protocols }
 without_one rules (plain.IcmpBlock name) = record rules { icmp_blocks = without bytes_eq name rules.icmp_blocks }
 without_one rules (plain.Service name) = record rules { services = without bytes_eq name rules.services }
+without_one rules (plain.Rich rule) = record rules { rich = without same_rule rule rules.rich }
 
 abbrev pub added : Rules → PlainSetting → Result Rules Code
 added rules setting = if has rules setting then Err code.AlreadyEnabled else Ok (with_one rules setting)
@@ -109,6 +120,7 @@ setting_text (plain.SourcePort port) = port_text port
 setting_text (plain.Protocol protocol) = proto_text protocol
 setting_text (plain.IcmpBlock name) = name
 setting_text (plain.Service name) = name
+setting_text (plain.Rich rule) = canon rule
 
 -- a setting as the arguments of a signal
 abbrev pub arguments : PlainSetting → List Value
@@ -117,6 +129,7 @@ arguments (plain.SourcePort port) = value.Text (ports_text port.range) ∷ value
 arguments (plain.Protocol protocol) = value.Text (proto_text protocol) ∷ []
 arguments (plain.IcmpBlock name) = value.Text name ∷ []
 arguments (plain.Service name) = value.Text name ∷ []
+arguments (plain.Rich rule) = value.Text (canon rule) ∷ []
 
 abbrev pub added_kind : PlainSetting → SignalKind
 added_kind (plain.Port port) = signal.ZonePortAdded
@@ -124,6 +137,7 @@ added_kind (plain.SourcePort port) = signal.ZoneSourcePortAdded
 added_kind (plain.Protocol protocol) = signal.ZoneProtocolAdded
 added_kind (plain.IcmpBlock name) = signal.ZoneIcmpBlockAdded
 added_kind (plain.Service name) = signal.ZoneServiceAdded
+added_kind (plain.Rich rule) = signal.ZoneRichRuleAdded
 
 abbrev pub removed_kind : PlainSetting → SignalKind
 removed_kind (plain.Port port) = signal.ZonePortRemoved
@@ -131,6 +145,7 @@ removed_kind (plain.SourcePort port) = signal.ZoneSourcePortRemoved
 removed_kind (plain.Protocol protocol) = signal.ZoneProtocolRemoved
 removed_kind (plain.IcmpBlock name) = signal.ZoneIcmpBlockRemoved
 removed_kind (plain.Service name) = signal.ZoneServiceRemoved
+removed_kind (plain.Rich rule) = signal.ZoneRichRuleRemoved
 
 -- the signals, with the zone's name; one that was added has no timeout
 abbrev pub added_signal : (zone : List ℕ) → PlainSetting → Signal
@@ -162,7 +177,7 @@ setting_answered zone verb.Query setting =
     Ok (record { signals = []; reply = reply.Ok (value.Bool (has zone.rules setting) ∷ []); after = zone })
 
 -- the same by its arguments
-abbrev pub setting_call : List Service → Zone → Verb → SettingWords → Result (Answered Zone) Refusal
-setting_call services zone verb words = do
-  setting ← setting_of services words
+abbrev pub setting_call : List Service → List IpSet → Zone → Verb → SettingWords → Result (Answered Zone) Refusal
+setting_call services ipsets zone verb words = do
+  setting ← setting_of services ipsets words
   setting_answered zone verb setting

@@ -82,12 +82,20 @@ fn setting_in(
     zone: &str,
     words: &SettingWords,
 ) -> Result<Answer, Stop>
-    ensures { Answers config.old config.new result (in_zone config.old zone.now (λ zone. setting_call config.old.services zone verb words.now)) }
+    ensures { Answers config.old config.new result (in_zone config.old zone.now (λ zone. setting_call config.old.services config.old.ipsets zone verb words.now)) }
 {
     let found = find_zone(alloc, config, zone)?;
     let place = found.place;
     let services = config.services.as_slice();
-    setting_call(alloc, services, config.zones.get_mut(place), verb, words)
+    let ipsets = config.ipsets.as_slice();
+    setting_call(
+        alloc,
+        services,
+        ipsets,
+        config.zones.get_mut(place),
+        verb,
+        words,
+    )
 }
 
 fn inversion_in(alloc: Global, config: &mut Config, verb: Verb, zone: &str) -> Result<Answer, Stop>

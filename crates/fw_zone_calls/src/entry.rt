@@ -82,7 +82,8 @@ fn read_set(alloc: Global, ipsets: &[IpSet], text: &str, name: &str) -> Result<E
     Ok(Entry::Source(Binding::Set(Text::of(alloc, name)?)))
 }
 
-fn has_set(ipsets: &[IpSet], name: &str) -> bool
+/// Whether there is an ipset of a name.
+pub fn has_set(ipsets: &[IpSet], name: &str) -> bool
     ensures { result ≡ list_any (λ set. bytes_eq set.name name.now) ipsets.now }
 {
     ipsets.iter().any(|set| set.name.as_str() == name)

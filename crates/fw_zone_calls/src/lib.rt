@@ -7,6 +7,7 @@ mod binding;
 mod bound;
 mod entry;
 mod inversion;
+mod rich;
 mod setting;
 mod settings;
 mod texts;

@@ -4,11 +4,13 @@ ghost use Rattle.fw_addr.specs.Protocols.{proto};
 ghost use Rattle.fw_answer.specs.Refusals.{Reads};
 ghost use Rattle.fw_zone_calls.specs.Settings.{added_kind, arguments, port_of, port_text, protocol_from, removed_kind, setting_of, setting_text};
 
+use super::rich::read_rule;
 use fw_addr::{Proto, icmp_numbers, read_port_proto, read_ports, read_proto};
 use fw_answer::{Stop, refuse};
 use fw_base::{Memory, Seq, Text};
 use fw_call::SettingWords;
-use fw_model::{Code, Port, Service};
+use fw_model::{Code, IpSet, Port, Rich, Service};
+use fw_rich::print_rich;
 use fw_service::knows;
 use fw_told::{SignalKind, Value};
 use std::alloc::Global;
@@ -21,15 +23,17 @@ pub enum PlainSetting {
     Protocol(Proto),
     IcmpBlock(Text),
     Service(Text),
+    Rich(Rich),
 }
 
-/// The setting that a call's arguments spell; a service is one of the configuration's.
+/// The setting that a call's arguments spell; services and ipsets are ones of the configuration's.
 pub fn read_setting(
     alloc: Global,
     services: &[Service],
+    ipsets: &[IpSet],
     words: &SettingWords,
 ) -> Result<PlainSetting, Stop>
-    ensures { Reads result (setting_of services.now words.now) }
+    ensures { Reads result (setting_of services.now ipsets.now words.now) }
 {
     match words {
         SettingWords::Port { port, protocol } => {
@@ -54,6 +58,10 @@ pub fn read_setting(
             } else {
                 Err(Stop::Refused(refuse(alloc, Code::InvalidService, name.as_str())?))
             }
+        }
+        SettingWords::RichRule { rule } => {
+            let rule = read_rule(alloc, services, ipsets, rule.as_str())?;
+            Ok(PlainSetting::Rich(rule))
         }
     }
 }
@@ -93,6 +101,7 @@ impl PlainSetting {
             PlainSetting::IcmpBlock(name) | PlainSetting::Service(name) => {
                 Text::of(alloc, name.as_str())
             }
+            PlainSetting::Rich(rule) => print_rich(alloc, rule),
         }
     }
 
@@ -103,9 +112,10 @@ impl PlainSetting {
         match self {
             PlainSetting::Port(port) => push_port(alloc, values, port),
             PlainSetting::SourcePort(port) => push_port(alloc, values, port),
-            PlainSetting::Protocol(_) | PlainSetting::IcmpBlock(_) | PlainSetting::Service(_) => {
-                values.push(Value::Text(self.text(alloc)?))
-            }
+            PlainSetting::Protocol(_)
+            | PlainSetting::IcmpBlock(_)
+            | PlainSetting::Service(_)
+            | PlainSetting::Rich(_) => values.push(Value::Text(self.text(alloc)?)),
         }
     }
 
@@ -119,6 +129,7 @@ impl PlainSetting {
             PlainSetting::Protocol(_) => SignalKind::ZoneProtocolAdded,
             PlainSetting::IcmpBlock(_) => SignalKind::ZoneIcmpBlockAdded,
             PlainSetting::Service(_) => SignalKind::ZoneServiceAdded,
+            PlainSetting::Rich(_) => SignalKind::ZoneRichRuleAdded,
         }
     }
 
@@ -132,6 +143,7 @@ impl PlainSetting {
             PlainSetting::Protocol(_) => SignalKind::ZoneProtocolRemoved,
             PlainSetting::IcmpBlock(_) => SignalKind::ZoneIcmpBlockRemoved,
             PlainSetting::Service(_) => SignalKind::ZoneServiceRemoved,
+            PlainSetting::Rich(_) => SignalKind::ZoneRichRuleRemoved,
         }
     }
 }

@@ -9,22 +9,23 @@ use super::told::{told_of, zone_values};
 use fw_answer::{Answer, EditError, Stop, refuse, value_answer};
 use fw_base::{Memory, Text};
 use fw_call::{SettingWords, Verb};
-use fw_model::{Code, Rules, Service, Setting, Zone};
+use fw_model::{Code, IpSet, Rules, Service, Setting, Zone};
 use fw_told::{Signal, Value};
 use fw_zone::{AddError, NotEnabled, add, has, remove};
 use std::alloc::Global;
 
-/// A call on a setting of a zone; a service is one of the configuration's.
+/// A call on a setting of a zone; services and ipsets are ones of the configuration's.
 pub fn setting_call(
     alloc: Global,
     services: &[Service],
+    ipsets: &[IpSet],
     zone: &mut Zone,
     verb: Verb,
     words: &SettingWords,
 ) -> Result<Answer, Stop>
-    ensures { Answers zone.old zone.new result (setting_call services.now zone.old verb words.now) }
+    ensures { Answers zone.old zone.new result (setting_call services.now ipsets.now zone.old verb words.now) }
 {
-    let setting = read_setting(alloc, services, words)?;
+    let setting = read_setting(alloc, services, ipsets, words)?;
     match verb {
         Verb::Add => add_setting(alloc, zone, setting),
         Verb::Remove => remove_setting(alloc, zone, setting),
@@ -100,6 +101,7 @@ fn whole(setting: PlainSetting) -> Setting
         PlainSetting::Protocol(protocol) => Setting::Protocol(protocol),
         PlainSetting::IcmpBlock(name) => Setting::IcmpBlock(name),
         PlainSetting::Service(name) => Setting::Service(name),
+        PlainSetting::Rich(rule) => Setting::Rich(rule),
     }
 }
 
