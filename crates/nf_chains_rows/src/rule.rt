@@ -27,13 +27,13 @@ fn match_of(alloc: Global, word: &str) -> Result<Option<Match>, Memory> {
         return Ok(Some(Match { not: false, test }));
     }
     if let Some(name) = word.strip_prefix("in=") {
-        return Ok(link_match(false, true, name));
+        return Ok(came_by(name));
     }
     if let Some(name) = word.strip_prefix("out=") {
-        return Ok(link_match(false, false, name));
+        return Ok(leaves_by(false, name));
     }
     if let Some(name) = word.strip_prefix("out!=") {
-        return Ok(link_match(true, false, name));
+        return Ok(leaves_by(true, name));
     }
     if let Some(name) = word.strip_prefix("set=") {
         let test = Test::SrcSet(Text::of(alloc, name)?);
@@ -42,16 +42,22 @@ fn match_of(alloc: Global, word: &str) -> Result<Option<Match>, Memory> {
     Ok(None)
 }
 
-fn link_match(not: bool, came: bool, name: &str) -> Option<Match> {
+fn came_by(name: &str) -> Option<Match> {
     match read_iface(name) {
-        Ok(entry) => {
-            let test = if came {
-                Test::In(entry)
-            } else {
-                Test::Out(entry)
-            };
-            Some(Match { not, test })
-        }
+        Ok(entry) => Some(Match {
+            not: false,
+            test: Test::In(entry),
+        }),
+        Err(_) => None,
+    }
+}
+
+fn leaves_by(not: bool, name: &str) -> Option<Match> {
+    match read_iface(name) {
+        Ok(entry) => Some(Match {
+            not,
+            test: Test::Out(entry),
+        }),
         Err(_) => None,
     }
 }
