@@ -21,7 +21,7 @@ use Rattle.fw_model.specs.declared.rich.Side.{Side}
 use Rattle.fw_rich.specs.Canonical.{canon, is_warning}
 use Rattle.fw_rich.specs.Grammar.{rule}
 use Rattle.fw_rich.specs.Refusals.{is_zero}
-use Rattle.fw_rich.specs.Rich.{parsed, parts_of, rich_text}
+use Rattle.fw_rich.specs.Rich.{Refusable, parsed, parts_of, rich_text}
 use Rattle.fw_rich.specs.Tokens.{is_plain, tokens, tokens_to, with_behind}
 use Rattle.fw_rich_law.proofs.Accepted.{accepted, no_mac}
 use Rattle.fw_rich_law.proofs.Canons.{act_pieces, action_pieces, audit_on, audit_pieces, binding_key, binding_value, canon_is, dest_on, element_on, element_pieces, family_on, family_pieces, level_pieces, limit_pieces, log_on, log_pieces, not_pieces, port_pieces, prefix_pieces, priority_pieces, rule_pieces, side_pieces, source_on, to_addr_pieces, to_port_pieces}
@@ -159,3 +159,14 @@ read_back printed what values rich =
     let parts_is : parts_of text ≡ Ok (parts.parts_of_rule (at_in size) (place_in size) what) = ap (parsed size) parse in
     ap rich_text (sym (canon_is what))
     ∙ rw (parts_is, rule_says (at_in size) (place_in size) printed what values rich, accepted (at_in size) (place_in size) what rich) refl
+
+same_rule : (one other : Rich) (first second : Refusable Rich) → first ≡ Ok one → second ≡ Ok other → first ≡ second → one ≡ other
+same_rule one other first second is also same = cc
+
+-- so a text is that of one rule alone
+pub told_apart : ((what : Rich) → HasValues what → IsRich what → rich_text (canon what) ≡ Ok what)
+    → (one other : Rich) → HasValues one → IsRich one → HasValues other → IsRich other → canon one ≡ canon other → one ≡ other
+told_apart back one other one_values one_rich other_values other_rich same =
+    let first = back one one_values one_rich in
+    let second = back other other_values other_rich in
+    same_rule one other (rich_text (canon one)) (rich_text (canon other)) first second (ap rich_text same)

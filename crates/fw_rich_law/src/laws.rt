@@ -12,9 +12,11 @@ use fw_addr::{
 };
 use fw_text::decimal_is_read;
 
-/// The canonical text of each rule whose values are in their grammars, and whose parts go together, is read as that rule.
+/// The canonical text of each rule whose values are in their ranges, and whose parts go together, is read as that rule. So
+/// it is the text of no other one.
 pub fn canonical_texts_are_read()
-    ensures { (rule : Rich) → HasValues rule → IsRich rule → rich_text (canon rule) ≡ Ok rule }
+    ensures read { (rule : Rich) → HasValues rule → IsRich rule → rich_text (canon rule) ≡ Ok rule }
+    ensures only { (rule other : Rich) → HasValues rule → IsRich rule → HasValues other → IsRich other → canon rule ≡ canon other → rule ≡ other }
 {
     decimal_is_read();
     printed_ports_are_read();
