@@ -6,4 +6,6 @@ mod items;
 mod rich;
 mod way;
 
+pub use items::REJECT;
+pub use rich::{Part, audit_name, blocks_icmp, reject_type, rules_in};
 pub use way::verdict;

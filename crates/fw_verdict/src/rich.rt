@@ -3,6 +3,7 @@ ghost use Rattle.std.specs.Prelude.{◌≡◌, ◌++◌, ◌&&◌, IfOk, Some};
 ghost use Rattle.std.specs.List.{filter, flat_map};
 ghost use Rattle.std.specs.Option.{option_copied};
 ghost use Rattle.fw_order.specs.Borrowed.{lent};
+ghost use Rattle.fw_order.specs.Order.{by_priority};
 ghost use Rattle.fw_verdict.specs.Given.{Walks, act_given, audit_given, audit_name, decision_given, lines_given, log_given};
 ghost use Rattle.fw_verdict.specs.Rich.{accepts, blocks_icmp, can_answer, denies, is_acceptance, is_denial, is_in_filter, is_mark, is_reset, marks, passes, reject_type, rich_items, rule_items, stands_in, translates};
 ghost use Rattle.fw_verdict.specs.Walk.{walk};
@@ -75,7 +76,8 @@ fn is_denial(act: Act) -> bool
     }
 }
 
-fn blocks_icmp(element: &Option<Element>) -> bool
+/// Whether a rule blocks an ICMP type, in place of an action.
+pub fn blocks_icmp(element: &Option<Element>) -> bool
     ensures { result ≡ blocks_icmp element.now }
 {
     match element {
@@ -136,6 +138,15 @@ fn rules_of<'a>(alloc: Global, part: Part, rules: &'a [Rich]) -> Result<Vec<&'a 
     Ok(found)
 }
 
+/// The rules of a part, by priority, and of one priority as they are listed.
+///
+/// Refuses for want of memory alone.
+pub fn rules_in<'a>(alloc: Global, part: Part, rules: &'a [Rich]) -> Result<Vec<&'a Rich>, Memory>
+    ensures { IfOk result (λ ordered. lent ordered.items ≡ by_priority (filter (stands_in part) rules.now)) }
+{
+    by_priority(rules_of(alloc, part, rules)?)
+}
+
 fn passes(limit: &Option<Limit>, packet: &Packet) -> bool
     ensures { result ≡ passes limit.now packet.now }
 {
@@ -162,7 +173,8 @@ fn log(alloc: Global, rule: &Rich, packet: &Packet, logs: &mut Seq<LogLine>) -> 
     })
 }
 
-fn audit_name(act: Act) -> Option<&'static str>
+/// The name by which `audit` tells of an action. A mark has none.
+pub fn audit_name(act: Act) -> Option<&'static str>
     ensures { option_copied result ≡ audit_name act }
 {
     match act {
@@ -208,7 +220,8 @@ fn log_lines(
     audit(alloc, rule, packet, logs)
 }
 
-fn reject_type(kind: Option<RejectType>) -> RejectType
+/// The type of a rule's reject. One without a type says that the port can't be reached.
+pub fn reject_type(kind: Option<RejectType>) -> RejectType
     ensures { result ≡ reject_type kind }
 {
     kind.unwrap_or(RejectType::IcmpxPortUnreachable)
@@ -332,6 +345,6 @@ pub fn walk_part(
 ) -> Result<Option<Verdict>, Memory>
     ensures { IfOk result (λ decided. Walks (walk (rich_items config.now part rules.now.rich) packet.now) logs.old logs.new decided) }
 {
-    let ordered = by_priority(rules_of(alloc, part, rules.rich.as_slice())?)?;
+    let ordered = rules_in(alloc, part, rules.rich.as_slice())?;
     act_in_turn(alloc, config, part, ordered.as_slice(), packet, logs)
 }

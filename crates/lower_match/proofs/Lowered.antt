@@ -23,7 +23,7 @@ use Rattle.lower_match.proofs.Members.{places_hold}
 use Rattle.lower_match.proofs.Reached.{Tested, reached_hits}
 use Rattle.lower_match.specs.Forms.{alone, icmp_alternatives, place_alternatives, typed}
 use Rattle.lower_match.specs.Lowers.{Lowers, one_holds}
-use Rattle.nf_eval.specs.Tests.{match_holds, test_holds}
+use Rattle.nf_chains.specs.Tests.{match_at, test_at}
 use Rattle.nf_rules.specs.declared.rule.Match.{Match}
 use Rattle.nf_rules.specs.declared.set.NfSet.{NfSet}
 use Rattle.nf_rules.specs.declared.test.Test.{Test}
@@ -31,26 +31,26 @@ use Rattle.nf_rules.specs.declared.test.Test.TheVariants as test
 
 pub reached_holds : (services : List Service) (name : List ℕ) (places : List ℕ) → Tested services → AreReached services name places
     → (alternatives : List (List Match)) → alternatives ≡ flat_map (place_alternatives services) places
-    → (sets : List NfSet) (packet : Packet) → service_hits services name packet ≡ one_holds sets packet alternatives
-reached_holds services name places tested are alternatives made sets packet =
-    sym (ap (one_holds sets packet) made ∙ places_hold sets packet services places ∙ reached_hits services name packet places tested are)
+    → (leaving : Option (List ℕ)) (sets : List NfSet) (packet : Packet) → service_hits services name packet ≡ one_holds leaving sets packet alternatives
+reached_holds services name places tested are alternatives made leaving sets packet =
+    sym (ap (one_holds leaving sets packet) made ∙ places_hold leaving sets packet services places ∙ reached_hits services name packet places tested are)
 
 pub lowers_service : (services : List Service) (ipsets : List IpSet) (told : Setting) (name text : List ℕ) (alternatives : List (List Match))
     → told ≡ setting.Service name → text ≡ name
-    → ((sets : List NfSet) (packet : Packet) → service_hits services text packet ≡ one_holds sets packet alternatives)
+    → ((leaving : Option (List ℕ)) (sets : List NfSet) (packet : Packet) → service_hits services text packet ≡ one_holds leaving sets packet alternatives)
     → Lowers services ipsets told alternatives
-lowers_service services ipsets told name text alternatives is_told same_text holds config rules packet same same_sets stand is_packet =
+lowers_service services ipsets told name text alternatives is_told same_text holds config rules leaving packet same same_sets stand is_packet =
     ap (λ (other : Setting). hits config other packet) is_told
     ∙ ap (λ (known : List Service). service_hits known name packet) same
     ∙ ap (λ (asked : List ℕ). service_hits services asked packet) (sym same_text)
-    ∙ holds rules.sets packet
+    ∙ holds leaving rules.sets packet
 
 one_only : (b : Bool) → b ≡ ((b && true) || false)
 one_only true = refl
 one_only false = refl
 
-alone_holds : (sets : List NfSet) (packet : Packet) (asked : Test) → test_holds sets packet asked ≡ one_holds sets packet (alone asked)
-alone_holds sets packet asked = one_only (test_holds sets packet asked)
+alone_holds : (leaving : Option (List ℕ)) (sets : List NfSet) (packet : Packet) (asked : Test) → test_at leaving sets packet asked ≡ one_holds leaving sets packet (alone asked)
+alone_holds leaving sets packet asked = one_only (test_at leaving sets packet asked)
 
 of_v4 : (address : Addr) → family address ≡ V4 → is_v4 address ≡ true
 of_v4 (addr.V4 number) same = refl
@@ -77,29 +77,29 @@ no_type : (b : Bool) → (b && false) ≡ false
 no_type true = refl
 no_type false = refl
 
-typed_v4 : (sets : List NfSet) (packet : Packet) (number : Option ℕ) → IsPacket packet → (is_icmpv4 packet && is_type number packet) ≡ one_holds sets packet (typed V4 number)
-typed_v4 sets packet None is_packet = no_type (is_icmpv4 packet)
-typed_v4 sets packet (Some number) is_packet =
-    ap (λ (first : Bool). first && packet.icmp_type == number) (only_v4 packet is_packet) ∙ alone_holds sets packet (test.Icmp V4 number)
+typed_v4 : (leaving : Option (List ℕ)) (sets : List NfSet) (packet : Packet) (number : Option ℕ) → IsPacket packet → (is_icmpv4 packet && is_type number packet) ≡ one_holds leaving sets packet (typed V4 number)
+typed_v4 leaving sets packet None is_packet = no_type (is_icmpv4 packet)
+typed_v4 leaving sets packet (Some number) is_packet =
+    ap (λ (first : Bool). first && packet.icmp_type == number) (only_v4 packet is_packet) ∙ alone_holds leaving sets packet (test.Icmp V4 number)
 
-typed_v6 : (sets : List NfSet) (packet : Packet) (number : Option ℕ) → IsPacket packet → (is_icmpv6 packet && is_type number packet) ≡ one_holds sets packet (typed V6 number)
-typed_v6 sets packet None is_packet = no_type (is_icmpv6 packet)
-typed_v6 sets packet (Some number) is_packet =
-    ap (λ (first : Bool). first && packet.icmp_type == number) (only_v6 packet is_packet) ∙ alone_holds sets packet (test.Icmp V6 number)
+typed_v6 : (leaving : Option (List ℕ)) (sets : List NfSet) (packet : Packet) (number : Option ℕ) → IsPacket packet → (is_icmpv6 packet && is_type number packet) ≡ one_holds leaving sets packet (typed V6 number)
+typed_v6 leaving sets packet None is_packet = no_type (is_icmpv6 packet)
+typed_v6 leaving sets packet (Some number) is_packet =
+    ap (λ (first : Bool). first && packet.icmp_type == number) (only_v6 packet is_packet) ∙ alone_holds leaving sets packet (test.Icmp V6 number)
 
-pub numbers_hold : (sets : List NfSet) (packet : Packet) (numbers : Option IcmpNumbers) → IsPacket packet → hits_numbers numbers packet ≡ one_holds sets packet (icmp_alternatives numbers)
-numbers_hold sets packet None is_packet = refl
-numbers_hold sets packet (Some numbers) is_packet =
-    ap (λ (first : Bool). first || (is_icmpv6 packet && is_type numbers.v6 packet)) (typed_v4 sets packet numbers.v4 is_packet)
-    ∙ ap (λ (second : Bool). one_holds sets packet (typed V4 numbers.v4) || second) (typed_v6 sets packet numbers.v6 is_packet)
-    ∙ sym (list_any-append (list_all (match_holds sets packet)) (typed V4 numbers.v4) (typed V6 numbers.v6))
+pub numbers_hold : (leaving : Option (List ℕ)) (sets : List NfSet) (packet : Packet) (numbers : Option IcmpNumbers) → IsPacket packet → hits_numbers numbers packet ≡ one_holds leaving sets packet (icmp_alternatives numbers)
+numbers_hold leaving sets packet None is_packet = refl
+numbers_hold leaving sets packet (Some numbers) is_packet =
+    ap (λ (first : Bool). first || (is_icmpv6 packet && is_type numbers.v6 packet)) (typed_v4 leaving sets packet numbers.v4 is_packet)
+    ∙ ap (λ (second : Bool). one_holds leaving sets packet (typed V4 numbers.v4) || second) (typed_v6 leaving sets packet numbers.v6 is_packet)
+    ∙ sym (list_any-append (list_all (match_at leaving sets packet)) (typed V4 numbers.v4) (typed V6 numbers.v6))
 
 pub lowers_icmp : (services : List Service) (ipsets : List IpSet) (told : Setting) (name text : List ℕ) (alternatives : List (List Match))
     → told ≡ setting.IcmpBlock name → text ≡ name
     → alternatives ≡ icmp_alternatives (icmp text)
     → Lowers services ipsets told alternatives
-lowers_icmp services ipsets told name text alternatives is_told same_text made config rules packet same same_sets stand is_packet =
+lowers_icmp services ipsets told name text alternatives is_told same_text made config rules leaving packet same same_sets stand is_packet =
     ap (λ (other : Setting). hits config other packet) is_told
     ∙ ap (λ (asked : List ℕ). hits_numbers (icmp asked) packet) (sym same_text)
-    ∙ numbers_hold rules.sets packet (icmp text) is_packet
-    ∙ ap (one_holds rules.sets packet) (sym made)
+    ∙ numbers_hold leaving rules.sets packet (icmp text) is_packet
+    ∙ ap (one_holds leaving rules.sets packet) (sym made)

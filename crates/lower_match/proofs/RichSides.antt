@@ -27,42 +27,43 @@ use Rattle.lower_match.specs.Lowers.{EachStands, StandsFor, set_name}
 use Rattle.lower_match.specs.RichForms.{both_ask, family_matches, receiver_kind, receiver_matches, receiver_set, receiver_test, set_named, sides_ask, source_kind, source_matches, source_set, source_test, turned_test}
 use Rattle.lower_match.proofs.Tests.{and_true, or_false}
 use Rattle.nf_eval.specs.Sets.{holds_address}
-use Rattle.nf_eval.specs.Tests.{is_from, is_from_set, is_same_family, match_holds, test_holds}
+use Rattle.nf_chains.specs.Tests.{match_at, test_at}
+use Rattle.nf_eval.specs.Tests.{is_from, is_from_set, is_same_family}
 use Rattle.nf_rules.specs.declared.rule.Match.{Match}
 use Rattle.nf_rules.specs.declared.set.NfSet.{NfSet}
 use Rattle.nf_rules.specs.declared.test.Test.{Test}
 use Rattle.nf_rules.specs.declared.test.Test.TheVariants as test
 
 -- matches that must all hold, or what never does
-abbrev pub all_hold : List NfSet → Packet → Option (List Match) → Bool
-all_hold sets packet None = false
-all_hold sets packet (Some matches) = list_all (match_holds sets packet) matches
+abbrev pub all_hold : Option (List ℕ) → List NfSet → Packet → Option (List Match) → Bool
+all_hold leaving sets packet None = false
+all_hold leaving sets packet (Some matches) = list_all (match_at leaving sets packet) matches
 
-abbrev it_holds : List NfSet → Packet → Option Test → Bool
-it_holds sets packet None = false
-it_holds sets packet (Some asked) = test_holds sets packet asked
+abbrev it_holds : Option (List ℕ) → List NfSet → Packet → Option Test → Bool
+it_holds leaving sets packet None = false
+it_holds leaving sets packet (Some asked) = test_at leaving sets packet asked
 
 and_false : (b : Bool) → (b && false) ≡ false
 and_false true = refl
 and_false false = refl
 
-both_hold : (sets : List NfSet) (packet : Packet) (one other : Option (List Match))
-    → all_hold sets packet (both_ask one other) ≡ (all_hold sets packet one && all_hold sets packet other)
-both_hold sets packet None other = refl
-both_hold sets packet (Some one) None = sym (and_false (list_all (match_holds sets packet) one))
-both_hold sets packet (Some one) (Some other) = list_all-append (match_holds sets packet) one other
+both_hold : (leaving : Option (List ℕ)) (sets : List NfSet) (packet : Packet) (one other : Option (List Match))
+    → all_hold leaving sets packet (both_ask one other) ≡ (all_hold leaving sets packet one && all_hold leaving sets packet other)
+both_hold leaving sets packet None other = refl
+both_hold leaving sets packet (Some one) None = sym (and_false (list_all (match_at leaving sets packet) one))
+both_hold leaving sets packet (Some one) (Some other) = list_all-append (match_at leaving sets packet) one other
 
-turned_holds : (sets : List NfSet) (packet : Packet) (inverted : Bool) (asked : Option Test)
-    → all_hold sets packet (turned_test inverted asked) ≡ turned inverted (it_holds sets packet asked)
-turned_holds sets packet true (Some asked) = and_true (not (test_holds sets packet asked))
-turned_holds sets packet false (Some asked) = and_true (test_holds sets packet asked)
-turned_holds sets packet true None = refl
-turned_holds sets packet false None = refl
+turned_holds : (leaving : Option (List ℕ)) (sets : List NfSet) (packet : Packet) (inverted : Bool) (asked : Option Test)
+    → all_hold leaving sets packet (turned_test inverted asked) ≡ turned inverted (it_holds leaving sets packet asked)
+turned_holds leaving sets packet true (Some asked) = and_true (not (test_at leaving sets packet asked))
+turned_holds leaving sets packet false (Some asked) = and_true (test_at leaving sets packet asked)
+turned_holds leaving sets packet true None = refl
+turned_holds leaving sets packet false None = refl
 
-family_holds : (sets : List NfSet) (packet : Packet) (of : Option Family)
-    → all_hold sets packet (Some (family_matches of)) ≡ is_of_rule of packet
-family_holds sets packet None = refl
-family_holds sets packet (Some of) = and_true (is_same_family (family packet.src) of) ∙ by of packet.src
+family_holds : (leaving : Option (List ℕ)) (sets : List NfSet) (packet : Packet) (of : Option Family)
+    → all_hold leaving sets packet (Some (family_matches of)) ≡ is_of_rule of packet
+family_holds leaving sets packet None = refl
+family_holds leaving sets packet (Some of) = and_true (is_same_family (family packet.src) of) ∙ by of packet.src
   where
     by : (wanted : Family) (address : Addr) → is_same_family (family address) wanted ≡ is_of_family wanted address
     by families.V4 (addr.V4 number) = refl
@@ -160,11 +161,11 @@ no_address : (one : Bool) → (one || false) ≡ false → one ≡ false
 no_address true is = is
 no_address false is = refl
 
-module _ (sets : List NfSet) (name : List ℕ) (set : IpSet) (stands : Stands sets name set) (packet : Packet) where
+module _ (leaving : Option (List ℕ)) (sets : List NfSet) (name : List ℕ) (set : IpSet) (stands : Stands sets name set) (packet : Packet) where
   by_address : (address : Addr) → set_holds set address None ≡ holds_address sets (set_name name) address
   by_address address = stands address None ∙ or_false (holds_address sets (set_name name) address)
 
-  source_kind_holds : (of : SetKind) → set.kind ≡ of → set_holds set packet.src packet.mac ≡ test_holds sets packet (source_kind name of)
+  source_kind_holds : (of : SetKind) → set.kind ≡ of → set_holds set packet.src packet.mac ≡ test_at leaving sets packet (source_kind name of)
   source_kind_holds kind.Ip is = with_kind set kind.Ip packet.src packet.mac is ∙ sym (with_kind set kind.Ip packet.src None is) ∙ by_address packet.src
   source_kind_holds kind.Net is = with_kind set kind.Net packet.src packet.mac is ∙ sym (with_kind set kind.Net packet.src None is) ∙ by_address packet.src
   source_kind_holds kind.Mac is =
@@ -172,7 +173,7 @@ module _ (sets : List NfSet) (name : List ℕ) (set : IpSet) (stands : Stands se
       ∙ right_of_none (holds_address sets (set_name name) packet.src) (is_from_set sets (set_name name) packet.mac)
       (no_address (holds_address sets (set_name name) packet.src) (sym (stands packet.src None) ∙ holds_no_mac set packet.src is))
 
-  receiver_kind_holds : (of : SetKind) → set.kind ≡ of → set_holds set packet.dst None ≡ it_holds sets packet (receiver_kind name of)
+  receiver_kind_holds : (of : SetKind) → set.kind ≡ of → set_holds set packet.dst None ≡ it_holds leaving sets packet (receiver_kind name of)
   receiver_kind_holds kind.Ip is = by_address packet.dst
   receiver_kind_holds kind.Net is = by_address packet.dst
   receiver_kind_holds kind.Mac is = holds_no_mac set packet.dst is
@@ -184,42 +185,42 @@ mac_holds : (mac : ℕ) (sender : Option ℕ) → is_mac mac sender ≡ is_from 
 mac_holds mac None = refl
 mac_holds mac (Some sender) = turned_round mac sender
 
-module _ (ipsets : List IpSet) (sets : List NfSet) (stand : EachStands ipsets sets) (packet : Packet) where
-  source_holds : (asked : Binding) → matches_source ipsets packet.src packet.mac asked ≡ it_holds sets packet (source_test ipsets asked)
+module _ (ipsets : List IpSet) (leaving : Option (List ℕ)) (sets : List NfSet) (stand : EachStands ipsets sets) (packet : Packet) where
+  source_holds : (asked : Binding) → matches_source ipsets packet.src packet.mac asked ≡ it_holds leaving sets packet (source_test ipsets asked)
   source_holds (binding.Net net) = refl
   source_holds (binding.Mac mac) = mac_holds mac packet.mac
   source_holds (binding.Set name) = named_holds sets name packet.src packet.mac ipsets stand ∙ by (set_named ipsets name) refl
     where
-      by : (there : Option IpSet) → set_named ipsets name ≡ there → found sets name packet.src packet.mac there ≡ it_holds sets packet (source_set name there)
+      by : (there : Option IpSet) → set_named ipsets name ≡ there → found sets name packet.src packet.mac there ≡ it_holds leaving sets packet (source_set name there)
       by None is = refl
-      by (Some set) is = source_kind_holds sets name set (found_stands sets name ipsets stand set is) packet set.kind refl
+      by (Some set) is = source_kind_holds leaving sets name set (found_stands sets name ipsets stand set is) packet set.kind refl
 
-  receiver_holds : (asked : Binding) → matches_source ipsets packet.dst None asked ≡ it_holds sets packet (receiver_test ipsets asked)
+  receiver_holds : (asked : Binding) → matches_source ipsets packet.dst None asked ≡ it_holds leaving sets packet (receiver_test ipsets asked)
   receiver_holds (binding.Net net) = refl
   receiver_holds (binding.Mac mac) = refl
   receiver_holds (binding.Set name) = named_holds sets name packet.dst None ipsets stand ∙ by (set_named ipsets name) refl
     where
-      by : (there : Option IpSet) → set_named ipsets name ≡ there → found sets name packet.dst None there ≡ it_holds sets packet (receiver_set name there)
+      by : (there : Option IpSet) → set_named ipsets name ≡ there → found sets name packet.dst None there ≡ it_holds leaving sets packet (receiver_set name there)
       by None is = refl
-      by (Some set) is = receiver_kind_holds sets name set (found_stands sets name ipsets stand set is) packet set.kind refl
+      by (Some set) is = receiver_kind_holds leaving sets name set (found_stands sets name ipsets stand set is) packet set.kind refl
 
-  source_side : (side : Option Side) → is_at ipsets packet.src packet.mac side ≡ all_hold sets packet (source_matches ipsets side)
+  source_side : (side : Option Side) → is_at ipsets packet.src packet.mac side ≡ all_hold leaving sets packet (source_matches ipsets side)
   source_side None = refl
-  source_side (Some side) = ap (turned side.not) (source_holds side.what) ∙ sym (turned_holds sets packet side.not (source_test ipsets side.what))
+  source_side (Some side) = ap (turned side.not) (source_holds side.what) ∙ sym (turned_holds leaving sets packet side.not (source_test ipsets side.what))
 
-  receiver_side : (side : Option Side) → is_at ipsets packet.dst None side ≡ all_hold sets packet (receiver_matches ipsets side)
+  receiver_side : (side : Option Side) → is_at ipsets packet.dst None side ≡ all_hold leaving sets packet (receiver_matches ipsets side)
   receiver_side None = refl
-  receiver_side (Some side) = ap (turned side.not) (receiver_holds side.what) ∙ sym (turned_holds sets packet side.not (receiver_test ipsets side.what))
+  receiver_side (Some side) = ap (turned side.not) (receiver_holds side.what) ∙ sym (turned_holds leaving sets packet side.not (receiver_test ipsets side.what))
 
   pub sides_hold : (rule : Rich)
       → (is_of_rule rule.family packet && is_at ipsets packet.src packet.mac rule.source && is_at ipsets packet.dst None rule.dest)
-      ≡ all_hold sets packet (sides_ask ipsets rule)
+      ≡ all_hold leaving sets packet (sides_ask ipsets rule)
   sides_hold rule =
-      let family = all_hold sets packet (Some (family_matches rule.family)) in
-      let source = all_hold sets packet (source_matches ipsets rule.source) in
-      let receiver = all_hold sets packet (receiver_matches ipsets rule.dest) in
+      let family = all_hold leaving sets packet (Some (family_matches rule.family)) in
+      let source = all_hold leaving sets packet (source_matches ipsets rule.source) in
+      let receiver = all_hold leaving sets packet (receiver_matches ipsets rule.dest) in
       let parts : (is_of_rule rule.family packet && is_at ipsets packet.src packet.mac rule.source && is_at ipsets packet.dst None rule.dest) ≡ (family && source && receiver) =
-      rw (source_side rule.source, receiver_side rule.dest, sym (family_holds sets packet rule.family)) refl in
+      rw (source_side rule.source, receiver_side rule.dest, sym (family_holds leaving sets packet rule.family)) refl in
       parts
-      ∙ ap (λ (front : Bool). front && receiver) (sym (both_hold sets packet (Some (family_matches rule.family)) (source_matches ipsets rule.source)))
-      ∙ sym (both_hold sets packet (both_ask (Some (family_matches rule.family)) (source_matches ipsets rule.source)) (receiver_matches ipsets rule.dest))
+      ∙ ap (λ (front : Bool). front && receiver) (sym (both_hold leaving sets packet (Some (family_matches rule.family)) (source_matches ipsets rule.source)))
+      ∙ sym (both_hold leaving sets packet (both_ask (Some (family_matches rule.family)) (source_matches ipsets rule.source)) (receiver_matches ipsets rule.dest))

@@ -1,5 +1,5 @@
 -- What it means that a setting of firewalld is told in matches of nft(8): the setting is about the packets of which the
--- matches hold. The manuals of firewalld (`hits`) stand on one side, the evaluation of nft(8) (`match_holds`) on the other.
+-- matches hold. The manuals of firewalld (`hits`) stand on one side, the evaluation of nft(8) (`match_at`) on the other.
 use Rattle.std.specs.Prelude.{◌≡◌, ℕ, List, ◌++◌, codes, Bool, ◌||◌, Option}
 use Rattle.std.specs.List.{list_all, list_any}
 use Rattle.fw_addr.specs.declared.addr.Addr.{Addr}
@@ -13,7 +13,8 @@ use Rattle.fw_hits.specs.Hits.{hits}
 use Rattle.fw_hits.specs.Sources.{set_holds}
 use Rattle.fw_zone.specs.Lists.{IsIn}
 use Rattle.nf_eval.specs.Sets.{holds_address}
-use Rattle.nf_eval.specs.Tests.{is_from_set, match_holds}
+use Rattle.nf_chains.specs.Tests.{match_at}
+use Rattle.nf_eval.specs.Tests.{is_from_set}
 use Rattle.nf_rules.specs.declared.rule.Match.{Match}
 use Rattle.nf_rules.specs.declared.ruleset.Ruleset.{Ruleset}
 use Rattle.nf_rules.specs.declared.set.NfSet.{NfSet}
@@ -33,16 +34,17 @@ abbrev pub EachStands : List IpSet → List NfSet → Type 0
 EachStands ipsets sets = (ipset : IpSet) → IsIn ipset ipsets → StandsFor sets ipset
 
 -- all matches of one alternative hold
-abbrev pub one_holds : List NfSet → Packet → List (List Match) → Bool
-one_holds sets packet alternatives = list_any (list_all (match_holds sets packet)) alternatives
+abbrev pub one_holds : Option (List ℕ) → List NfSet → Packet → List (List Match) → Bool
+one_holds leaving sets packet alternatives = list_any (list_all (match_at leaving sets packet)) alternatives
 
 -- A setting, with these services and ipsets, is told in alternatives: for every packet, the setting is about it exactly where all
--- matches of one alternative hold, in every ruleset in which each ipset stands as the set of its name.
+-- matches of one alternative hold, in every ruleset in which each ipset stands as the set of its name, and by whatever interface the
+-- packet leaves, if any.
 abbrev pub Lowers : List Service → List IpSet → Setting → List (List Match) → Type 0
 Lowers services ipsets told alternatives =
-    (config : Config) (rules : Ruleset) (packet : Packet)
+    (config : Config) (rules : Ruleset) (leaving : Option (List ℕ)) (packet : Packet)
     → config.services ≡ services
     → config.ipsets ≡ ipsets
     → EachStands ipsets rules.sets
     → IsPacket packet
-    → hits config told packet ≡ one_holds rules.sets packet alternatives
+    → hits config told packet ≡ one_holds leaving rules.sets packet alternatives

@@ -106,7 +106,7 @@ behind front alternatives = map (λ alternative. front ++ alternative) alternati
 -- An element is told in alternatives: a packet is of it exactly where all matches of one hold.
 abbrev pub LowersElement : List Service → Option Family → Option Element → List (List Match) → Type 0
 LowersElement services family told alternatives =
-    (config : Config) (sets : List NfSet) (packet : Packet)
+    (config : Config) (leaving : Option (List ℕ)) (sets : List NfSet) (packet : Packet)
     → config.services ≡ services
     → IsPacket packet
-    → is_of_element config family packet told ≡ one_holds sets packet alternatives
+    → is_of_element config family packet told ≡ one_holds leaving sets packet alternatives

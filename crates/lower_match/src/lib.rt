@@ -8,4 +8,5 @@ mod service;
 mod setting;
 mod sides;
 
+pub use rich::rich_matches;
 pub use setting::matches_of;

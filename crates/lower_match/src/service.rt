@@ -1,5 +1,5 @@
 //! The alternatives of services, with all that they include.
-ghost use Rattle.std.specs.Prelude.{◌≡◌, ◌++◌, List, IfOk, OnOk};
+ghost use Rattle.std.specs.Prelude.{◌≡◌, ◌++◌, ℕ, List, Option, IfOk, OnOk};
 ghost use Rattle.std.specs.List.{flat_map};
 ghost use Rattle.fw_model.specs.declared.packet.Packet.{Packet};
 ghost use Rattle.fw_hits.specs.Services.{service_hits};
@@ -23,8 +23,8 @@ pub fn service_matches(
     services: &[Service],
     name: &str,
 ) -> Result<Seq<Seq<Match>>, Memory>
-    ensures { IfOk result (λ alternatives. (sets : List NfSet) (packet : Packet)
-        → service_hits services.now name.now packet ≡ one_holds sets packet alternatives) }
+    ensures { IfOk result (λ alternatives. (leaving : Option (List ℕ)) (sets : List NfSet) (packet : Packet)
+        → service_hits services.now name.now packet ≡ one_holds leaving sets packet alternatives) }
 {
     chains_are_short();
     let places = closure(alloc, services, name)?;

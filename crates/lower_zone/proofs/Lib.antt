@@ -1,0 +1,5 @@
+pub mod Items
+pub mod Alternatives
+pub mod Sequences
+pub mod Tells
+pub mod Works

@@ -1,0 +1,6 @@
+pub mod Evaluates
+pub mod Forms
+pub mod Names
+pub mod Parts
+pub mod Verdicts
+pub mod Work

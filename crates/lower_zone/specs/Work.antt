@@ -1,0 +1,63 @@
+-- What rules do that are added to a chain one after another, and the chains that they lead to.
+use Rattle.std.specs.Prelude.{◌≡◌, ℕ, List, [], ◌∷◌, ◌++◌, length, Bool, ◌&&◌, Option, None, Some, if◌then◌else◌}
+use Rattle.std.specs.List.{list_all, list_any}
+use Rattle.fw_addr.specs.declared.log.LogLine.{LogLine}
+use Rattle.fw_model.specs.declared.config.Config.{Config}
+use Rattle.fw_model.specs.declared.outcome.Verdict.{Verdict}
+use Rattle.fw_model.specs.declared.packet.Packet.{Packet}
+use Rattle.fw_verdict.specs.Walk.{Effect, Walked, done, nothing}
+use Rattle.lower_zone.specs.Evaluates.{EachIsThere, Follows, Meeting, behind_lines}
+use Rattle.lower_zone.specs.Forms.{chain_named, jump_to}
+use Rattle.lower_zone.specs.Names.{own_name}
+use Rattle.nf_chains.specs.Evaluation.{Ends}
+use Rattle.nf_chains.specs.Moments.{Moment}
+use Rattle.nf_chains.specs.Tests.{match_at}
+use Rattle.nf_rules.specs.declared.chain.Chain.{Chain}
+use Rattle.nf_rules.specs.declared.rule.Match.{Match}
+use Rattle.nf_rules.specs.declared.ruleset.Ruleset.{Ruleset}
+use Rattle.nf_rules.specs.declared.rule.Rule.{Rule}
+
+-- From a moment, rules that stand before others do what a walk does.
+pub record Do (rules : Ruleset) (leaving : Option (List ℕ)) (made : List Rule) (now : Moment) (walked : Walked) : Type 0 where
+  pub looked_at : ℕ
+  pub ends : (behind : List Rule) (returns : List (List Rule)) (verdict : Verdict) (end : Moment)
+      → Follows walked.decided (Ends rules leaving [] behind returns (behind_lines walked.logs looked_at now)) (behind_lines walked.logs looked_at now) verdict end
+      → Ends rules leaving [] (made ++ behind) returns now verdict end
+
+-- The rules of a whole chain do what a walk does. At its end it comes back.
+pub record ChainDoes (rules : Ruleset) (leaving : Option (List ℕ)) (made : List Rule) (now : Moment) (walked : Walked) : Type 0 where
+  pub looked_at : ℕ
+  pub ends : (returns : List (List Rule)) (verdict : Verdict) (end : Moment)
+      → Follows walked.decided (Ends rules leaving [] [] returns (behind_lines walked.logs looked_at now)) (behind_lines walked.logs looked_at now) verdict end
+      → Ends rules leaving [] made returns now verdict end
+
+-- one of the alternatives holds, all of its matches do
+abbrev pub one_holds_at : Option (List ℕ) → Ruleset → Packet → List (List Match) → Bool
+one_holds_at leaving rules packet alternatives = list_any (list_all (match_at leaving rules.sets packet)) alternatives
+
+-- A condition is told in alternatives.
+abbrev pub Tells : Config → List (List Match) → (Packet → Bool) → Type 0
+Tells config alternatives condition =
+    (rules : Ruleset) (leaving : Option (List ℕ)) (now : Moment)
+    → Meeting config rules now
+    → condition now.packet ≡ one_holds_at leaving rules now.packet alternatives
+
+-- what an effect does under a condition
+abbrev pub under : (Packet → Bool) → Walked → Packet → Walked
+under condition walked packet = if condition packet then walked else nothing
+
+-- Rules and chains were added that do what a walk does.
+pub record Adds (config : Config) (walked : Packet → Walked) (old_rules new_rules : List Rule) (old_chains new_chains : List Chain) : Type 0 where
+  pub rules : List Rule
+  pub chains : List Chain
+  pub new_rules_are : new_rules ≡ old_rules ++ rules
+  pub new_chains_are : new_chains ≡ old_chains ++ chains
+  pub work : (table : Ruleset) (leaving : Option (List ℕ)) (now : Moment)
+      → EachIsThere chains table
+      → Meeting config table now
+      → Do table leaving rules now (walked now.packet)
+
+-- A chain of its own was added, and a jump to it.
+pub record HasOwn (block : List ℕ) (own : List Rule) (old_rules new_rules : List Rule) (old_chains new_chains : List Chain) : Type 0 where
+  pub rules : new_rules ≡ old_rules ++ jump_to (own_name (length old_chains) block) ∷ []
+  pub chains : new_chains ≡ old_chains ++ chain_named (own_name (length old_chains) block) own ∷ []

@@ -1,0 +1,15 @@
+//! The settings of zones and policies told in chains of nft(8): the chains do with packets what the walk of firewalld.zone(5) and
+//! firewalld.richlanguage(5) does.
+#![tactic(auto)]
+
+mod block;
+mod lines;
+mod listed;
+mod names;
+mod part;
+mod policy;
+mod rules;
+mod zone;
+
+pub use policy::policy_chains;
+pub use zone::zone_chains;
