@@ -3,3 +3,4 @@ pub mod Reading
 pub mod Types
 pub mod Signatures
 pub mod FirstFault
+pub mod Letters

@@ -6,6 +6,7 @@ mod error;
 mod kind;
 mod kinds;
 mod laws;
+mod letters;
 mod signature;
 mod spelling;
 

@@ -10,6 +10,7 @@ use crate::cursor::Cursor;
 use crate::error::WireError;
 use crate::kind::Kind;
 use crate::kinds::{kinds_at, one_kind_at};
+use crate::letters::{Letters, copy_letters, lend_letters};
 use crate::spelling::push_codes;
 use fw_base::{Memory, TryCopy};
 use sqlite_items::Items;
@@ -23,7 +24,7 @@ const MAX_LENGTH: usize = 255;
 /// nested at most 32 deep and structs at most 32. Contracts see its bytes.
 #[derive(Drop)]
 pub struct Signature {
-    bytes: Vec<u8>,
+    letters: Letters,
 }
 
 impl Model for Signature {
@@ -31,11 +32,12 @@ impl Model for Signature {
 
     ghost Value = { List ℕ };
 
+    ghost use Rattle.dbus_signature.specs.Letters.{letters_of};
     ghost use Rattle.dbus_signature.specs.Signatures.{IsSignature};
 
-    ghost view = { λ signature. signature.bytes.items };
+    ghost view = { λ signature. letters_of signature.letters };
 
-    ghost invariant = { λ signature. IsSignature signature.bytes.items };
+    ghost invariant = { λ signature. IsSignature (letters_of signature.letters) };
 }
 
 impl Signature {
@@ -46,7 +48,7 @@ impl Signature {
         ensures bytes { result.now ≡ self.now }
         ensures valid { IsSignature self.now }
     {
-        self.bytes.as_slice()
+        lend_letters(&self.letters)
     }
 }
 
@@ -58,8 +60,8 @@ impl Signature {
         requires { IsSignature text.now }
         ensures { IfOk result (λ signature. signature ≡ text.now) }
     {
-        let bytes = Vec::from_slice(alloc, text)?;
-        Ok(Signature { bytes })
+        let letters = copy_letters(alloc, text)?;
+        Ok(Signature { letters })
     }
 
     /// The signature of one type, which keeps the limits.
@@ -69,7 +71,8 @@ impl Signature {
     {
         let mut bytes = Vec::new(alloc);
         push_codes(&mut bytes, kind)?;
-        Ok(Signature { bytes })
+        let letters = copy_letters(alloc, bytes.as_slice())?;
+        Ok(Signature { letters })
     }
 
     /// Whether it is a signature of one complete type.
@@ -107,8 +110,8 @@ impl Signature {
 
 impl TryCopy for Signature {
     fn copy(&self, alloc: Global) -> Result<Signature, Memory> {
-        let bytes = Vec::from_slice(alloc, self.as_bytes())?;
-        Ok(Signature { bytes })
+        let letters = copy_letters(alloc, self.as_bytes())?;
+        Ok(Signature { letters })
     }
 }
 
@@ -135,6 +138,6 @@ pub fn read_signature(alloc: Global, bytes: &[u8]) -> Result<Signature, WireErro
     ensures only { IsSignature bytes.now → signature_of bytes.now ≡ Ok bytes.now }
 {
     kinds_of(alloc, bytes)?;
-    let bytes = Vec::from_slice(alloc, bytes)?;
-    Ok(Signature { bytes })
+    let letters = copy_letters(alloc, bytes)?;
+    Ok(Signature { letters })
 }

@@ -1,8 +1,11 @@
-//! Configurations, a line for each zone.
-use fw_addr::{Family, PortProto, read_iface, read_mac, read_net, read_ports, read_proto};
-use fw_base::{Seq, Text};
+//! Configurations, a line for each zone and service.
+use fw_addr::{
+    Addr, Family, Mac, Net, PortProto, read_iface, read_mac, read_net, read_ports, read_proto,
+};
+use fw_base::{Memory, Seq, Text};
 use fw_model::{
-    Binding, Config, IpSet, Item, LogDenied, Notes, Port, Rules, Service, SetKind, Zone, ZoneTarget,
+    Binding, Config, IpSet, Item, LogDenied, Notes, Port, Rules, Runtime, Service, SetKind, Zone,
+    ZoneTarget,
 };
 use fw_service::built_in_services;
 use std::alloc::Global;
@@ -78,7 +81,7 @@ fn rules(alloc: Global, port_word: &str, icmp: &str, service_word: Option<&str>)
 
 /// A zone by its name, target, `inversion` or `forward`, interface, source, TCP port, ICMP block, and a service, which may be left
 /// out; `-` stands for none.
-fn zone(alloc: Global, line: &str) -> Option<Zone> {
+pub fn zone(alloc: Global, line: &str) -> Option<Zone> {
     let mut words = line.split(' ');
     let name = text(alloc, words.next()?)?;
     let target = target(words.next()?);
@@ -99,41 +102,37 @@ fn zone(alloc: Global, line: &str) -> Option<Zone> {
     })
 }
 
-fn zones(alloc: Global, lines: &str) -> Option<Seq<Zone>> {
-    let mut zones = Seq::new(alloc);
-    for line in lines.lines() {
-        zones.push(zone(alloc, line)?).ok()?;
-    }
-    Some(zones)
-}
-
-fn set(alloc: Global, name: &str, kind: SetKind, timeout: bool, word: &str) -> Option<IpSet> {
-    let item = match kind {
-        SetKind::Mac => Item::Mac(read_mac(word).ok()?),
-        _ => Item::Net(read_net(word).ok()?),
-    };
-    Some(IpSet {
-        name: text(alloc, name)?,
+fn set(
+    alloc: Global,
+    name: &str,
+    kind: SetKind,
+    timeout: bool,
+    item: Item,
+) -> Result<IpSet, Memory> {
+    let mut items = Seq::new(alloc);
+    items.push(item)?;
+    Ok(IpSet {
+        name: Text::of(alloc, name)?,
         kind,
         family: Family::V4,
         timeout,
-        items: list(alloc, Some(item))?,
+        items,
     })
 }
 
-fn sets(alloc: Global) -> Option<Seq<IpSet>> {
+/// 10.1.0.0/16 in `nets`, 10.2.0.0/16 in `fading`, which has a timeout, and a MAC in `macs`.
+fn sets(alloc: Global) -> Result<Seq<IpSet>, Memory> {
+    let net = |second: u32| Item::Net(Net::new(Addr::V4(0x0a00_0000 + second * 0x1_0000), 16));
     let mut sets = Seq::new(alloc);
-    let nets = set(alloc, "nets", SetKind::Net, false, "10.1.0.0/16")?;
-    sets.push(nets).ok()?;
-    let fading = set(alloc, "fading", SetKind::Net, true, "10.2.0.0/16")?;
-    sets.push(fading).ok()?;
-    let macs = set(alloc, "macs", SetKind::Mac, false, "00:1b:21:00:00:0a")?;
-    sets.push(macs).ok()?;
-    Some(sets)
+    sets.push(set(alloc, "nets", SetKind::Net, false, net(1))?)?;
+    sets.push(set(alloc, "fading", SetKind::Net, true, net(2))?)?;
+    let mac = Item::Mac(Mac(0x001b_2100_000a));
+    sets.push(set(alloc, "macs", SetKind::Mac, false, mac)?)?;
+    Ok(sets)
 }
 
 /// A service by its name, TCP port, protocol, source port, and a service that it includes; `-` stands for none.
-fn service(alloc: Global, line: &str) -> Option<Service> {
+pub fn service(alloc: Global, line: &str) -> Option<Service> {
     let mut words = line.split(' ');
     let name = text(alloc, words.next()?)?;
     let open = port(words.next()?);
@@ -151,24 +150,18 @@ fn service(alloc: Global, line: &str) -> Option<Service> {
     })
 }
 
-/// The built-in services, and those of these lines.
-fn services(alloc: Global, lines: &str) -> Option<Seq<Service>> {
-    let mut services = built_in_services(alloc).ok()?;
-    for line in lines.lines() {
-        services.push(service(alloc, line)?).ok()?;
-    }
-    Some(services)
-}
-
-/// The zones of these lines, the services of others beside the built-in ones, the sets `nets`, `fading` and `macs`, and `public`
-/// as the default zone.
-pub fn config(alloc: Global, lines: &str, service_lines: &str) -> Option<Config> {
-    Some(Config {
-        default_zone: text(alloc, "public")?,
+/// No zone, the built-in services, the sets, and `public` as the default zone.
+pub fn start(alloc: Global) -> Result<Runtime, Memory> {
+    let config = Config {
+        default_zone: Text::of(alloc, "public")?,
         log_denied: LogDenied::Off,
-        zones: zones(alloc, lines)?,
+        zones: Seq::new(alloc),
         policies: Seq::new(alloc),
-        services: services(alloc, service_lines)?,
+        services: built_in_services(alloc)?,
         ipsets: sets(alloc)?,
+    };
+    Ok(Runtime {
+        panic: false,
+        config,
     })
 }

@@ -6,16 +6,11 @@ use nf_rules::{NfSet, SetBody};
 use std::alloc::Global;
 
 /// 10.0.0.0/8
-pub fn ten() -> Net {
+fn ten() -> Net {
     Net::new(Addr::V4(0x0a00_0000), 8)
 }
 
-/// 192.0.2.0/24
-pub fn documentation() -> Net {
-    Net::new(Addr::V4(0xc000_0200), 24)
-}
-
-pub fn three_a_minute() -> Limit {
+fn three_a_minute() -> Limit {
     Limit {
         count: 3,
         unit: Unit::Minute,

@@ -1,151 +1,83 @@
-//! Each test, of a packet that it holds of and of one that it doesn't hold of.
-use super::packets::{documentation, echo, new_connection, sets, ten, three_a_minute};
+//! Tests by words.
 use fw_addr::{
-    CtState, Family, Limit, Mac, PktType, PortProto, PortRange, Proto, Unit, read_iface,
+    CtState, Family, Limit, PktType, PortProto, Unit, read_iface, read_mac, read_net,
+    read_port_proto, read_ports, read_proto,
 };
-use fw_base::{Memory, Text};
-use fw_model::Packet;
-use nf_eval::match_holds;
-use nf_rules::{Match, NfSet, Test};
+use fw_base::Text;
+use nf_rules::Test;
 use std::alloc::Global;
-use std::test::Fail;
 
-fn only(port: u16) -> PortRange {
-    PortRange {
-        first: port,
-        last: port,
+/// The test of some words, as `saddr 10.0.0.0/8` and `dport tcp 80`; None where they are none.
+pub fn test_of(alloc: Global, words: &str) -> Option<Test> {
+    let (name, value) = words.split_once(' ').unwrap_or((words, ""));
+    match name {
+        "family" => Some(Test::Family(family_of(value)?)),
+        "saddr" => Some(Test::Src(read_net(value).ok()?)),
+        "daddr" => Some(Test::Dst(read_net(value).ok()?)),
+        "saddr-set" => Some(Test::SrcSet(Text::of(alloc, value).ok()?)),
+        "daddr-set" => Some(Test::DstSet(Text::of(alloc, value).ok()?)),
+        "ether" => Some(Test::SrcMac(read_mac(value).ok()?)),
+        "ether-set" => Some(Test::SrcMacSet(Text::of(alloc, value).ok()?)),
+        "iifname" => Some(Test::In(read_iface(value).ok()?)),
+        "oifname" => Some(Test::Out(read_iface(value).ok()?)),
+        "l4proto" => Some(Test::Proto(read_proto(value).ok()?)),
+        "state" => Some(Test::State(state_of(value)?)),
+        "dnat" => Some(Test::Dnat),
+        "pkttype" => Some(Test::Pkt(type_of(value)?)),
+        "limit" => Some(Test::Limit(limit_of(value)?)),
+        _ => of_two_words(alloc, name, value),
     }
 }
 
-/// Whether a test is answered as wanted, and with `not` the other way.
-fn is(sets: &[NfSet], packet: &Packet, test: Test, want: bool) -> bool {
-    let plain = Match { not: false, test };
-    let held = match_holds(sets, packet, &plain);
-    let turned = Match {
-        not: true,
-        test: plain.test,
+fn of_two_words(alloc: Global, name: &str, words: &str) -> Option<Test> {
+    let (first, second) = words.split_once(' ')?;
+    match name {
+        "sport" => Some(Test::Sport(proto_of(first)?, read_ports(second).ok()?)),
+        "dport" => Some(Test::Dport(proto_of(first)?, read_ports(second).ok()?)),
+        "dport-set" => Some(Test::DportSet(proto_of(first)?, Text::of(alloc, second).ok()?)),
+        "icmp" => Some(Test::Icmp(family_of(first)?, second.parse::<u8>().ok()?)),
+        _ => None,
+    }
+}
+
+fn family_of(word: &str) -> Option<Family> {
+    match word {
+        "ipv4" => Some(Family::V4),
+        "ipv6" => Some(Family::V6),
+        _ => None,
+    }
+}
+
+fn proto_of(word: &str) -> Option<PortProto> {
+    read_port_proto(word).ok()
+}
+
+fn state_of(word: &str) -> Option<CtState> {
+    match word {
+        "new" => Some(CtState::New),
+        "established" => Some(CtState::Established),
+        "related" => Some(CtState::Related),
+        "invalid" => Some(CtState::Invalid),
+        _ => None,
+    }
+}
+
+fn type_of(word: &str) -> Option<PktType> {
+    match word {
+        "unicast" => Some(PktType::Unicast),
+        "broadcast" => Some(PktType::Broadcast),
+        "multicast" => Some(PktType::Multicast),
+        _ => None,
+    }
+}
+
+/// So many a minute or an hour.
+fn limit_of(word: &str) -> Option<Limit> {
+    let (count, unit) = match word.split_once('/')? {
+        (count, "minute") => (count, Unit::Minute),
+        (count, "hour") => (count, Unit::Hour),
+        _ => return None,
     };
-    held == want && match_holds(sets, packet, &turned) != want
-}
-
-fn of_addresses(alloc: Global) -> Result<Vec<(Test, bool, bool)>, Memory> {
-    let three_an_hour = Limit {
-        count: 3,
-        unit: Unit::Hour,
-    };
-    Ok(vec![in alloc;
-        (Test::Family(Family::V4), true, false),
-        (Test::Family(Family::V6), false, true),
-        (Test::Src(ten()), true, false),
-        (Test::Src(documentation()), false, false),
-        (Test::Dst(documentation()), true, false),
-        (Test::Dst(ten()), false, false),
-        (Test::SrcMac(Mac(5)), true, false),
-        (Test::SrcMac(Mac(6)), false, false),
-        (Test::State(CtState::New), true, false),
-        (Test::State(CtState::Established), false, true),
-        (Test::Dnat, false, true),
-        (Test::Pkt(PktType::Unicast), true, false),
-        (Test::Pkt(PktType::Multicast), false, true),
-        (Test::Limit(three_a_minute()), true, false),
-        (Test::Limit(three_an_hour), false, false),
-    ]?)
-}
-
-fn of_protocols() -> [(Test, bool, bool); 12] {
-    [
-        (Test::Proto(Proto(6)), true, false),
-        (Test::Proto(Proto(58)), false, true),
-        (Test::Sport(PortProto::Tcp, only(40_000)), true, false),
-        (Test::Sport(PortProto::Udp, only(40_000)), false, false),
-        (Test::Sport(PortProto::Tcp, only(80)), false, false),
-        (Test::Dport(PortProto::Tcp, only(80)), true, false),
-        (Test::Dport(PortProto::Udp, only(80)), false, false),
-        (Test::Dport(PortProto::Tcp, only(81)), false, false),
-        (Test::Icmp(Family::V6, 128), false, true),
-        (Test::Icmp(Family::V6, 129), false, false),
-        (Test::Icmp(Family::V4, 128), false, false),
-        (Test::Icmp(Family::V4, 0), false, false),
-    ]
-}
-
-#[test]
-fn addresses_and_connections(rt: HostRuntime) -> Result<(), Fail> {
-    let alloc = rt.alloc();
-    let (first, second) = (new_connection(alloc)?, echo(alloc)?);
-    for (test, of_first, of_second) in of_addresses(alloc)? {
-        assert!(rt; is(&[], &first, test.clone()?, of_first));
-        assert!(rt; is(&[], &second, test, of_second));
-    }
-    Ok(())
-}
-
-#[test]
-fn protocols_and_ports(rt: HostRuntime) -> Result<(), Fail> {
-    let alloc = rt.alloc();
-    let (first, second) = (new_connection(alloc)?, echo(alloc)?);
-    for (test, of_first, of_second) in of_protocols() {
-        assert!(rt; is(&[], &first, test.clone()?, of_first));
-        assert!(rt; is(&[], &second, test, of_second));
-    }
-    Ok(())
-}
-
-#[test]
-fn sets_by_kind(rt: HostRuntime) -> Result<(), Fail> {
-    let alloc = rt.alloc();
-    let (packet, sets) = (new_connection(alloc)?, sets(alloc)?);
-    for (name, of_source, of_sender, of_port) in [
-        ("nets", true, false, false),
-        ("macs", false, true, false),
-        ("ports", false, false, true),
-        ("none", false, false, false),
-    ] {
-        let named = || Text::of(alloc, name);
-        assert!(rt; is(sets.as_slice(), &packet, Test::SrcSet(named()?), of_source));
-        assert!(rt; is(sets.as_slice(), &packet, Test::DstSet(named()?), false));
-        assert!(rt;
-            is(
-                sets.as_slice(),
-                &packet,
-                Test::SrcMacSet(named()?),
-                of_sender
-            )
-        );
-        assert!(rt;
-            is(
-                sets.as_slice(),
-                &packet,
-                Test::DportSet(PortProto::Tcp, named()?),
-                of_port
-            )
-        );
-        assert!(rt;
-            is(
-                sets.as_slice(),
-                &packet,
-                Test::DportSet(PortProto::Udp, named()?),
-                false
-            )
-        );
-    }
-    Ok(())
-}
-
-#[test]
-fn interfaces(rt: HostRuntime) -> Result<(), Fail> {
-    let alloc = rt.alloc();
-    let (first, second) = (new_connection(alloc)?, echo(alloc)?);
-    for (entry, of_first) in [
-        ("eth0", true),
-        ("eth+", true),
-        ("eth1", false),
-        ("lo", false),
-    ] {
-        let name = read_iface(entry)?;
-        assert!(rt; is(&[], &first, Test::In(name.clone()?), of_first));
-        assert!(rt; is(&[], &second, Test::In(name.clone()?), false));
-        assert!(rt; is(&[], &first, Test::Out(name), false));
-    }
-    Ok(())
+    let count = count.parse::<u16>().ok()?;
+    Some(Limit { count, unit })
 }

@@ -10,6 +10,3 @@ pub use journal::{Entry, Journal};
 pub use threads::{Worked, alone, four, pair};
 pub use whole::{run_four, run_one, run_two, start, take_all};
 pub use worker::{add, open_session, take, work};
-
-#[cfg(test)]
-mod tests;

@@ -1,0 +1,11 @@
+pub mod Pieces
+pub mod Tokenized
+pub mod Canons
+pub mod Starts
+pub mod Parts
+pub mod Parsed
+pub mod Plain
+pub mod Reading
+pub mod Said
+pub mod Accepted
+pub mod Law

@@ -1,0 +1,6 @@
+//! Rich rules by their canonical texts.
+#![tactic(auto)]
+
+mod laws;
+
+pub use laws::canonical_texts_are_read;

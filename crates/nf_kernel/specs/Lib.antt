@@ -1,0 +1,3 @@
+pub mod Installed
+pub mod Parts
+pub mod Transactions
