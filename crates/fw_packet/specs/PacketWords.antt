@@ -12,7 +12,7 @@ use Rattle.fw_words.specs.Keys.{after_key, at_most_one, only, values}
 -- the keys, none of which begins another
 abbrev pub keys : List (List ℕ)
 keys =
-    codes "in=" ∷ codes "src=" ∷ codes "dst=" ∷ codes "proto=" ∷ codes "mac=" ∷ codes "sport=" ∷ codes "dport="
+    codes "in=" ∷ codes "host" ∷ codes "src=" ∷ codes "dst=" ∷ codes "proto=" ∷ codes "mac=" ∷ codes "sport=" ∷ codes "dport="
     ∷ codes "type=" ∷ codes "code=" ∷ codes "state=" ∷ codes "dnat" ∷ codes "pkt=" ∷ codes "mark=" ∷ codes "limit="
     ∷ codes "route=" ∷ []
 

@@ -14,8 +14,9 @@ use Rattle.fw_addr.specs.declared.packet.Family.{Family}
 use Rattle.fw_addr.specs.declared.packet.Family.TheVariants as families
 use Rattle.fw_addr.specs.declared.packet.PktType.TheVariants.{Unicast}
 use Rattle.fw_limit.specs.Limits.{limit}
+use Rattle.fw_model.specs.declared.packet.Origin.{Origin}
 use Rattle.fw_model.specs.declared.packet.Packet.{Packet}
-use Rattle.fw_packet.specs.Links.{origin, route}
+use Rattle.fw_packet.specs.Links.{origin, origin_by, route}
 use Rattle.fw_packet.specs.PacketWords.{given, is_known, optional, packet_types, repeated, required, states}
 
 -- The family of two addresses and a protocol, where they have one: the addresses are of one family, and ICMP (1) is of IPv4
@@ -25,6 +26,13 @@ common_family (V4 m) (V4 n) protocol = if protocol == icmpv6_protocol then None 
 common_family (V6 m) (V6 n) protocol = if protocol == icmp_protocol then None else Some families.V6
 common_family (V4 m) (V6 n) protocol = None
 common_family (V6 m) (V4 n) protocol = None
+
+-- `in` with the name of an interface, or `host`
+unfoldable pub origin_of : List (List ℕ) → Option Origin
+origin_of words = do
+  host ← optional (codes "host") given words
+  link ← optional (codes "in=") origin words
+  origin_by host link
 
 -- What words with these keys describe. Where the word of a key may be lacking, the record has what stands in its place.
 unfoldable pub described : List (List ℕ) → Option Packet
@@ -42,7 +50,7 @@ described words = do
   dnat ← optional (codes "dnat") given words
   pkt ← optional (codes "pkt=") (named packet_types) words
   mark ← optional (codes "mark=") (number_to 4294967295) words
-  origin ← required (codes "in=") origin words
+  origin ← origin_of words
   limits ← repeated (codes "limit=") limit words
   routes ← repeated (codes "route=") route words
   Some (record {

@@ -24,8 +24,8 @@ fn is_known(word: &str) -> bool
     ensures { result ≡ is_known word.now }
 {
     let keys = [
-        "in=", "src=", "dst=", "proto=", "mac=", "sport=", "dport=", "type=", "code=", "state=",
-        "dnat", "pkt=", "mark=", "limit=", "route=",
+        "in=", "host", "src=", "dst=", "proto=", "mac=", "sport=", "dport=", "type=", "code=",
+        "state=", "dnat", "pkt=", "mark=", "limit=", "route=",
     ];
     begins_with_any(&keys, word)
 }

@@ -2,10 +2,11 @@
 ghost use Rattle.std.specs.Prelude.{◌≡◌, IsTrue, IfOk};
 ghost use Rattle.fw_addr.specs.Protocols.{icmp_protocol, icmpv6_protocol};
 ghost use Rattle.fw_addr.specs.Subnets.{family};
-ghost use Rattle.fw_model.specs.Packets.{IsPacket, has_plain_link};
+ghost use Rattle.fw_model.specs.Packets.{IsPacket};
 ghost use Rattle.fw_words.specs.Keys.{texts};
 ghost use Rattle.fw_words.specs.Reading.{Says};
-ghost use Rattle.fw_packet.specs.Packets.{common_family, described, packet_of};
+ghost use Rattle.fw_packet.specs.Links.{is_plain};
+ghost use Rattle.fw_packet.specs.Packets.{common_family, described, origin_of, packet_of};
 
 use super::keys::are_known;
 use super::value::{optional, repeated, required};
@@ -15,7 +16,7 @@ use fw_model::{Origin, Packet, Via};
 use fw_words::LineError;
 use std::alloc::Global;
 
-/// Reads the packet that words describe, in any order: `in`, `src`, `dst` and `proto`, and where they are given `mac`,
+/// Reads the packet that words describe, in any order: `in` or `host`, `src`, `dst` and `proto`, and where they are given `mac`,
 /// `sport`, `dport`, `type`, `code`, `state`, `dnat`, `pkt`, `mark`, and any number of `limit` and `route`. Without its word a number
 /// is 0, the state new, and the packet is addressed to the host alone.
 ///
@@ -24,7 +25,7 @@ use std::alloc::Global;
 pub fn read_packet(alloc: Global, words: &[&str]) -> Result<Packet, LineError>
     ensures says { Says result (packet_of (texts words.now)) }
     ensures is_packet { IfOk result IsPacket }
-    ensures plain_link { IfOk result (λ packet. IsTrue (has_plain_link packet.origin)) }
+    ensures plain_link { IfOk result (λ packet. IsTrue (is_plain packet.origin)) }
 {
     if are_known(words) {
         read_described(alloc, words)
@@ -38,7 +39,7 @@ pub fn read_packet(alloc: Global, words: &[&str]) -> Result<Packet, LineError>
 fn read_described(alloc: Global, words: &[&str]) -> Result<Packet, LineError>
     ensures says { Says result (described (texts words.now)) }
     ensures is_packet { IfOk result IsPacket }
-    ensures plain_link { IfOk result (λ packet. IsTrue (has_plain_link packet.origin)) }
+    ensures plain_link { IfOk result (λ packet. IsTrue (is_plain packet.origin)) }
 {
     let src: Addr = required(alloc, "src=", words)?;
     let dst: Addr = required(alloc, "dst=", words)?;
@@ -53,7 +54,7 @@ fn read_described(alloc: Global, words: &[&str]) -> Result<Packet, LineError>
     let dnat: Option<bool> = optional(alloc, "dnat", words)?;
     let pkt: Option<PktType> = optional(alloc, "pkt=", words)?;
     let mark: Option<u32> = optional(alloc, "mark=", words)?;
-    let origin: Origin = required(alloc, "in=", words)?;
+    let origin = read_origin(alloc, words)?;
     let limits: Seq<Limit> = repeated(alloc, "limit=", words)?;
     let routes: Seq<(Net, Via)> = repeated(alloc, "route=", words)?;
     Ok(Packet {
@@ -73,6 +74,22 @@ fn read_described(alloc: Global, words: &[&str]) -> Result<Packet, LineError>
         limits,
         routes,
     })
+}
+
+/// Where a packet comes from: `in` names the interface that it came by, and `host` says that it is the host's own. BadLine: both
+/// stand there, or neither does.
+#[tactic(auto, unfolding(crate::specs::Packets::origin_of))]
+fn read_origin(alloc: Global, words: &[&str]) -> Result<Origin, LineError>
+    ensures says { Says result (origin_of (texts words.now)) }
+    ensures plain { IfOk result (λ origin. IsTrue (is_plain origin)) }
+{
+    let host: Option<bool> = optional(alloc, "host", words)?;
+    let link: Option<Origin> = optional(alloc, "in=", words)?;
+    match (host, link) {
+        (None, Some(link)) => Ok(link),
+        (Some(_), None) => Ok(Origin::Host),
+        _ => Err(LineError::BadLine),
+    }
 }
 
 /// The family of two addresses and a protocol's number. BadLine: they have none.

@@ -29,8 +29,11 @@ use Rattle.fw_model.specs.declared.zone.ZoneTarget.TheVariants as target
 use Rattle.fw_hits.specs.Bindings.{egress, ingress}
 use Rattle.fw_hits.specs.Plain.{is_icmp}
 use Rattle.fw_verdict.specs.Items.{accepted, items}
+use Rattle.fw_verdict.specs.Policies.{End, policies}
+use Rattle.fw_verdict.specs.Policies.End.{at_host, in_zone}
 use Rattle.fw_verdict.specs.Walk.{Item, Walked, in_turn, nothing, silently, walk}
 use Rattle.fw_verdict.specs.Walk.Effect.{decide}
+use Rattle.fw_verdict.specs.declared.policies.Stage.TheVariants as stage
 
 -- 1. Panic (firewalld.dbus(5), `enablePanicMode`): every packet is dropped, with its own mark, and nothing else is done.
 abbrev pub panicked : Packet → Outcome
@@ -104,18 +107,12 @@ decided_as chosen = silently (Some chosen)
 abbrev pub reject : Verdict
 reject = verdict.Reject IcmpxAdminProhibited
 
--- where packets come from and go to: the host, or a zone (which is none only where the default zone isn't there)
-pub data End : Type 0 where
-  at_host : End
-  in_zone : Option Zone → End
-
--- Policies from one end to another (firewalld.policies(5)), those of negative priority, which come before the zones' settings,
--- and those of positive priority, which come behind them: none yet.
+-- Policies from one end to another, those that come before the zone's settings and those that come behind them.
 abbrev pub policies_before : Config → Packet → End → End → Walked
-policies_before config packet from to = nothing
+policies_before config packet from to = policies config stage.BeforeZone packet from to
 
 abbrev pub policies_behind : Config → Packet → End → End → Walked
-policies_behind config packet from to = nothing
+policies_behind config packet from to = policies config stage.BehindZone packet from to
 
 -- 5. To the host. The settings of the zone that the packet comes from.
 abbrev pub zone_walk : Config → Packet → Option Zone → Walked
@@ -175,7 +172,8 @@ forwarded config packet name =
     ∷ forwarded_end (ingress config packet)
     ∷ [])
 
--- 7. From the host: accepted, after policies.
+-- 7. From the host: packets of connections that were let in and those that leave by `lo` are accepted, and all others behind the
+-- policies from the host, of which no zone stands between.
 abbrev pub lo_walk : List ℕ → Walked
 lo_walk name = if bytes_eq name (codes "lo") then decided_as verdict.Accept else nothing
 

@@ -1,8 +1,9 @@
 //! What becomes of a packet under the settings in force: the walk of firewalld.zone(5) over zones, with the rules of
-//! firewalld.richlanguage(5).
+//! firewalld.richlanguage(5) and the policies of firewalld.policies(5).
 #![tactic(auto)]
 
 mod items;
+mod policies;
 mod rich;
 mod way;
 

@@ -7,9 +7,10 @@ ghost use Rattle.fw_model.specs.Packets.{came_by};
 ghost use Rattle.fw_model.specs.declared.packet.Via.TheVariants as via;
 ghost use Rattle.fw_verdict.specs.Given.{Walks};
 ghost use Rattle.fw_verdict.specs.Walk.{silently, walk};
-ghost use Rattle.fw_verdict.specs.Way.{decided_as, early_items, filtered, forwarded, is_invalid, is_known, panicked, route, stays_within, target_forwarded, target_to_host, to_host, way};
+ghost use Rattle.fw_verdict.specs.Way.{decided_as, early_items, filtered, forwarded, forwarded_end, from_host, is_invalid, is_known, route, stays_within, target_forwarded, target_to_host, to_host, to_host_end, way, zone_walk};
 
 use crate::items::{REJECT, walk_rules};
+use crate::policies::{End, Stage, walk_policies};
 use fw_addr::{CtState, LogLine, Net};
 use fw_base::{Memory, Seq};
 use fw_hits::{egress, ingress, is_icmp};
@@ -69,9 +70,13 @@ fn filtered(
     ensures { IfOk result (λ verdict. Walks (filtered config.now packet.now packet.now.origin (route packet.now)) logs.old logs.new (Some verdict)) }
 {
     match &packet.origin {
-        Origin::Host => Ok(Verdict::Accept),
+        Origin::Host => match route(packet) {
+            Some(Via::Link(name)) => from_host(alloc, config, packet, name.as_str(), logs),
+            Some(Via::Local) => from_host(alloc, config, packet, "lo", logs),
+            None => from_host(alloc, config, packet, "lo", logs),
+        },
         Origin::Link(_) => match route(packet) {
-            Some(Via::Link(name)) => Ok(forwarded(config, packet, name.as_str())),
+            Some(Via::Link(name)) => forwarded(alloc, config, packet, name.as_str(), logs),
             Some(Via::Local) => to_host(alloc, config, packet, logs),
             None => to_host(alloc, config, packet, logs),
         },
@@ -136,6 +141,32 @@ fn target_to_host(target: ZoneTarget, packet: &Packet) -> Verdict
     }
 }
 
+/// What the settings of a zone decide of a packet to the host, if anything.
+fn walk_zone(
+    alloc: Global,
+    config: &Config,
+    zone: Option<&Zone>,
+    packet: &Packet,
+    logs: &mut Seq<LogLine>,
+) -> Result<Option<Verdict>, Memory>
+    ensures { IfOk result (λ decided. Walks (zone_walk config.now packet.now (option_copied zone.entry)) logs.old logs.new decided) }
+{
+    match zone {
+        Some(zone) => walk_rules(alloc, config, &zone.rules, zone.inversion, packet, logs),
+        None => Ok(None),
+    }
+}
+
+/// What a zone's target decides of a packet to the host. A packet of no zone is dropped.
+fn end_to_host(zone: Option<&Zone>, packet: &Packet) -> Verdict
+    ensures { to_host_end packet.now (option_copied zone.entry) ≡ decided_as result }
+{
+    match zone {
+        Some(zone) => target_to_host(zone.target, packet),
+        None => Verdict::Drop,
+    }
+}
+
 fn to_host(
     alloc: Global,
     config: &Config,
@@ -147,13 +178,36 @@ fn to_host(
     if let Some(verdict) = early(packet) {
         return Ok(verdict);
     }
-    let Some(zone) = ingress(config, packet) else {
-        return Ok(Verdict::Drop);
-    };
-    match walk_rules(alloc, config, &zone.rules, zone.inversion, packet, logs)? {
-        Some(verdict) => Ok(verdict),
-        None => Ok(target_to_host(zone.target, packet)),
+    let zone = ingress(config, packet);
+    let from = End::Zone(zone);
+    let before = walk_policies(
+        alloc,
+        config,
+        Stage::BeforeZone,
+        from,
+        End::Host,
+        packet,
+        logs,
+    )?;
+    if let Some(verdict) = before {
+        return Ok(verdict);
     }
+    if let Some(verdict) = walk_zone(alloc, config, zone, packet, logs)? {
+        return Ok(verdict);
+    }
+    let behind = walk_policies(
+        alloc,
+        config,
+        Stage::BehindZone,
+        from,
+        End::Host,
+        packet,
+        logs,
+    )?;
+    if let Some(verdict) = behind {
+        return Ok(verdict);
+    }
+    Ok(end_to_host(zone, packet))
 }
 
 /// Whether a forwarded packet stays within a zone that lets packets go from it to itself.
@@ -180,18 +234,82 @@ fn target_forwarded(target: ZoneTarget) -> Verdict
     }
 }
 
-fn forwarded(config: &Config, packet: &Packet, name: &str) -> Verdict
-    ensures { forwarded config.now packet.now name.now ≡ decided_as result }
+/// What a zone's target decides of a forwarded packet. A packet of no zone is dropped.
+fn end_forwarded(zone: Option<&Zone>) -> Verdict
+    ensures { forwarded_end (option_copied zone.entry) ≡ decided_as result }
 {
-    if let Some(verdict) = early(packet) {
-        return verdict;
-    }
-    let from = ingress(config, packet);
-    if stays_within(from, egress(config, packet, name)) {
-        return Verdict::Accept;
-    }
-    match from {
+    match zone {
         Some(zone) => target_forwarded(zone.target),
         None => Verdict::Drop,
     }
+}
+
+fn forwarded(
+    alloc: Global,
+    config: &Config,
+    packet: &Packet,
+    name: &str,
+    logs: &mut Seq<LogLine>,
+) -> Result<Verdict, Memory>
+    ensures { IfOk result (λ verdict. Walks (forwarded config.now packet.now name.now) logs.old logs.new (Some verdict)) }
+{
+    if let Some(verdict) = early(packet) {
+        return Ok(verdict);
+    }
+    let zone = ingress(config, packet);
+    let other = egress(config, packet, name);
+    let from = End::Zone(zone);
+    let to = End::Zone(other);
+    let before = walk_policies(alloc, config, Stage::BeforeZone, from, to, packet, logs)?;
+    if let Some(verdict) = before {
+        return Ok(verdict);
+    }
+    if stays_within(zone, other) {
+        return Ok(Verdict::Accept);
+    }
+    let behind = walk_policies(alloc, config, Stage::BehindZone, from, to, packet, logs)?;
+    if let Some(verdict) = behind {
+        return Ok(verdict);
+    }
+    Ok(end_forwarded(zone))
+}
+
+fn from_host(
+    alloc: Global,
+    config: &Config,
+    packet: &Packet,
+    name: &str,
+    logs: &mut Seq<LogLine>,
+) -> Result<Verdict, Memory>
+    ensures { IfOk result (λ verdict. Walks (from_host config.now packet.now name.now) logs.old logs.new (Some verdict)) }
+{
+    if is_known(packet.state) {
+        return Ok(Verdict::Accept);
+    }
+    if name == "lo" {
+        return Ok(Verdict::Accept);
+    }
+    let to = End::Zone(egress(config, packet, name));
+    let before = walk_policies(
+        alloc,
+        config,
+        Stage::BeforeZone,
+        End::Host,
+        to,
+        packet,
+        logs,
+    )?;
+    if let Some(verdict) = before {
+        return Ok(verdict);
+    }
+    let behind = walk_policies(
+        alloc,
+        config,
+        Stage::BehindZone,
+        End::Host,
+        to,
+        packet,
+        logs,
+    )?;
+    Ok(behind.unwrap_or(Verdict::Accept))
 }
