@@ -1,0 +1,4 @@
+pub mod Faults
+pub mod Members
+pub mod Settings
+pub mod SideTests
