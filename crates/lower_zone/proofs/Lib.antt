@@ -3,3 +3,4 @@ pub mod Alternatives
 pub mod Sequences
 pub mod Tells
 pub mod Works
+pub mod Apart

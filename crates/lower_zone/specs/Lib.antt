@@ -1,5 +1,6 @@
 pub mod Evaluates
 pub mod Forms
+pub mod Laws
 pub mod Names
 pub mod Parts
 pub mod Verdicts

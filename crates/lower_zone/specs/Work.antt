@@ -1,6 +1,6 @@
 -- What rules do that are added to a chain one after another, and the chains that they lead to.
-use Rattle.std.specs.Prelude.{◌≡◌, ℕ, List, [], ◌∷◌, ◌++◌, length, Bool, ◌&&◌, Option, None, Some, if◌then◌else◌}
-use Rattle.std.specs.List.{list_all, list_any}
+use Rattle.std.specs.Prelude.{◌≡◌, ◌≢◌, ◌<◌, ◌^◌, ℕ, List, [], ◌∷◌, ◌++◌, length, Bool, ◌&&◌, Option, None, Some, if◌then◌else◌}
+use Rattle.std.specs.List.{AllPairs, list_all, list_any}
 use Rattle.fw_addr.specs.declared.log.LogLine.{LogLine}
 use Rattle.fw_model.specs.declared.config.Config.{Config}
 use Rattle.fw_model.specs.declared.outcome.Verdict.{Verdict}
@@ -8,7 +8,9 @@ use Rattle.fw_model.specs.declared.packet.Packet.{Packet}
 use Rattle.fw_verdict.specs.Walk.{Effect, Walked, done, nothing}
 use Rattle.lower_zone.specs.Evaluates.{EachIsThere, Follows, Meeting, behind_lines}
 use Rattle.lower_zone.specs.Forms.{chain_named, jump_to}
-use Rattle.lower_zone.specs.Names.{own_name}
+use Rattle.lower_zone.specs.Names.{own_name, part_name, place}
+use Rattle.fw_zone.specs.Lists.{IsIn}
+use Rattle.fw_verdict.specs.declared.rich.Part.{Part}
 use Rattle.nf_chains.specs.Evaluation.{Ends}
 use Rattle.nf_chains.specs.Moments.{Moment}
 use Rattle.nf_chains.specs.Tests.{match_at}
@@ -61,3 +63,14 @@ pub record Adds (config : Config) (walked : Packet → Walked) (old_rules new_ru
 pub record HasOwn (block : List ℕ) (own : List Rule) (old_rules new_rules : List Rule) (old_chains new_chains : List Chain) : Type 0 where
   pub rules : new_rules ≡ old_rules ++ jump_to (own_name (length old_chains) block) ∷ []
   pub chains : new_chains ≡ old_chains ++ chain_named (own_name (length old_chains) block) own ∷ []
+  pub fits : length old_chains < 2 ^ 64
+
+-- A name that a chain of a block may have so far: of a part before one in order, or of a chain of its own by a number below.
+pub data IsTaken (block : List ℕ) (parts count : ℕ) (name : List ℕ) : Type 0 where
+  of_part : (part : Part) → place part < parts → name ≡ part_name part block → IsTaken block parts count name
+  own : (number : ℕ) → number < count → number < 2 ^ 64 → name ≡ own_name number block → IsTaken block parts count name
+
+-- Chains so far have such names, and no two of them have the same.
+pub record AreNamed (block : List ℕ) (parts : ℕ) (chains : List Chain) : Type 0 where
+  pub each : (chain : Chain) → IsIn chain chains → IsTaken block parts (length chains) chain.name
+  pub differ : AllPairs (λ one other. one.name ≢ other.name) chains

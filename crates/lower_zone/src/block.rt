@@ -1,14 +1,15 @@
 //! The chains of a block: one for each of its parts in which something stands, and one that leads through them.
-ghost use Rattle.std.specs.Prelude.{◌≡◌, List, [], IfOk, OnOk};
+ghost use Rattle.std.specs.Prelude.{◌≡◌, List, [], IfOk, OnOk, ℕ, suc};
 ghost use Rattle.fw_model.specs.declared.config.Config.{Config};
 ghost use Rattle.fw_model.specs.declared.packet.Packet.{Packet};
 ghost use Rattle.fw_verdict.specs.Items.{items};
 ghost use Rattle.fw_verdict.specs.Walk.{Walked, walk};
 ghost use Rattle.nf_rules.specs.declared.chain.Chain.{Chain};
 ghost use Rattle.lower_zone.specs.Evaluates.{Evaluates};
-ghost use Rattle.lower_zone.specs.Names.{block_name};
+ghost use Rattle.fw_verdict.specs.declared.rich.Part.{Part};
+ghost use Rattle.lower_zone.specs.Names.{NamesDiffer, block_name, part_name, place};
 ghost use Rattle.lower_zone.specs.Parts.{part_items, plain_items};
-ghost use Rattle.lower_zone.specs.Work.{Adds};
+ghost use Rattle.lower_zone.specs.Work.{AreNamed, Adds};
 
 use crate::listed::{push_blocks, push_listed};
 use crate::names::{block_name, part_name};
@@ -31,7 +32,8 @@ fn push_plain(
     rules: &mut Seq<Rule>,
     chains: &mut Seq<Chain>,
 ) -> Result<(), Memory>
-    ensures { OnOk result (Adds config.now (walk (plain_items config.now settings.now inversion part)) rules.old rules.new chains.old chains.new) }
+    ensures adds { OnOk result (Adds config.now (walk (plain_items config.now settings.now inversion part)) rules.old rules.new chains.old chains.new) }
+    ensures names { OnOk result ((parts : ℕ) → AreNamed block.now parts chains.old → AreNamed block.now parts chains.new) }
 {
     match part {
         Part::Deny => push_blocks(alloc, config, block, settings, inversion, rules, chains),
@@ -50,9 +52,10 @@ fn push_chain(
     rules: &mut Seq<Rule>,
     chains: &mut Seq<Chain>,
 ) -> Result<(), Memory>
-    ensures { OnOk result ((config : Config) (walked : Packet → Walked) (before : List Chain)
+    ensures adds { OnOk result ((config : Config) (walked : Packet → Walked) (before : List Chain)
         → Adds config walked [] made before chains.old
         → Adds config walked rules.old rules.new before chains.new) }
+    ensures names { OnOk result ((block : List ℕ) (part : Part) → name ≡ part_name part block → AreNamed block (place part) chains.old → AreNamed block (suc (place part)) chains.new) }
 {
     if made.as_slice().is_empty() {
         return Ok(());
@@ -76,7 +79,8 @@ fn push_part(
     rules: &mut Seq<Rule>,
     chains: &mut Seq<Chain>,
 ) -> Result<(), Memory>
-    ensures { OnOk result (Adds config.now (walk (part_items config.now settings.now inversion part)) rules.old rules.new chains.old chains.new) }
+    ensures adds { OnOk result (Adds config.now (walk (part_items config.now settings.now inversion part)) rules.old rules.new chains.old chains.new) }
+    ensures names { OnOk result (AreNamed block.now (place part) chains.old → AreNamed block.now (suc (place part)) chains.new) }
 {
     let mut made = Seq::new(alloc);
     push_rich(alloc, config, block, part, settings, &mut made, chains)?;
@@ -97,7 +101,8 @@ fn push_parts(
     rules: &mut Seq<Rule>,
     chains: &mut Seq<Chain>,
 ) -> Result<(), Memory>
-    ensures { OnOk result (Adds config.now (walk (items config.now settings.now inversion)) rules.old rules.new chains.old chains.new) }
+    ensures adds { OnOk result (Adds config.now (walk (items config.now settings.now inversion)) rules.old rules.new chains.old chains.new) }
+    ensures names { OnOk result (AreNamed block.now 0 chains.old → AreNamed block.now 5 chains.new) }
 {
     push_part(
         alloc,
@@ -161,7 +166,8 @@ pub fn block_chains(
     settings: &Rules,
     inversion: bool,
 ) -> Result<Seq<Chain>, Memory>
-    ensures { IfOk result (λ chains. Evaluates config.now chains (block_name block.now) (walk (items config.now settings.now inversion))) }
+    ensures evaluates { IfOk result (λ chains. Evaluates config.now chains (block_name block.now) (walk (items config.now settings.now inversion))) }
+    ensures names { IfOk result (λ chains. NamesDiffer block.now chains) }
 {
     let mut rules = Seq::new(alloc);
     let mut chains = Seq::new(alloc);

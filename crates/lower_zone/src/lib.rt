@@ -3,6 +3,7 @@
 #![tactic(auto)]
 
 mod block;
+mod laws;
 mod lines;
 mod listed;
 mod names;
@@ -11,5 +12,6 @@ mod policy;
 mod rules;
 mod zone;
 
+pub use laws::blocks_are_apart;
 pub use policy::policy_chains;
 pub use zone::zone_chains;

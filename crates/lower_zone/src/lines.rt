@@ -1,12 +1,12 @@
 //! Log lines, each given once.
-ghost use Rattle.std.specs.Prelude.{◌≡◌, [], ◌∷◌, Bool, IfOk, OnOk};
+ghost use Rattle.std.specs.Prelude.{◌≡◌, [], ◌∷◌, Bool, IfOk, OnOk, ℕ};
 ghost use Rattle.fw_model.specs.declared.config.Config.{Config};
 ghost use Rattle.fw_model.specs.declared.packet.Packet.{Packet};
 ghost use Rattle.fw_verdict.specs.Walk.{done};
 ghost use Rattle.fw_verdict.specs.Walk.Effect.{log};
 ghost use Rattle.nf_rules.specs.declared.statement.Stmt.TheVariants as stmt;
 ghost use Rattle.lower_zone.specs.Forms.{line_rules};
-ghost use Rattle.lower_zone.specs.Work.{Adds, Tells, under};
+ghost use Rattle.lower_zone.specs.Work.{AreNamed, Adds, Tells, under};
 
 use crate::rules::{one, push_each, push_own};
 use fw_addr::LogLine;
@@ -50,8 +50,9 @@ pub fn push_line(
     rules: &mut Seq<Rule>,
     chains: &mut Seq<Chain>,
 ) -> Result<(), Memory>
-    ensures { OnOk result ((config : Config) (condition : Packet → Bool) → Tells config alternatives condition
+    ensures adds { OnOk result ((config : Config) (condition : Packet → Bool) → Tells config alternatives condition
         → Adds config (under condition (done (log line))) rules.old rules.new chains.old chains.new) }
+    ensures names { OnOk result ((parts : ℕ) → AreNamed block.now parts chains.old → AreNamed block.now parts chains.new) }
 {
     let count = alternatives.as_slice().len();
     if count <= ALONE {

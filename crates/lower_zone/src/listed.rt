@@ -1,5 +1,5 @@
 //! The settings beside rich rules: what they let in, and the ICMP types that they block.
-ghost use Rattle.std.specs.Prelude.{◌≡◌, ◌++◌, [], ◌∷◌, List, map, true, IfOk, OnOk};
+ghost use Rattle.std.specs.Prelude.{◌≡◌, ◌++◌, [], ◌∷◌, List, map, true, IfOk, OnOk, ℕ};
 ghost use Rattle.std.specs.List.{list_any};
 ghost use Rattle.fw_hits.specs.Hits.{hits};
 ghost use Rattle.fw_model.specs.declared.packet.Packet.{Packet};
@@ -9,7 +9,7 @@ ghost use Rattle.fw_verdict.specs.Walk.{walk};
 ghost use Rattle.nf_rules.specs.declared.chain.Chain.{Chain};
 ghost use Rattle.lower_zone.specs.Forms.{icmp_alternatives, other_icmp_rules};
 ghost use Rattle.lower_zone.specs.Verdicts.{can_decide, decided_by, listed_icmp, listed_settings};
-ghost use Rattle.lower_zone.specs.Work.{Adds, Tells};
+ghost use Rattle.lower_zone.specs.Work.{AreNamed, Adds, Tells};
 
 use crate::rules::{is, one, push_decision, push_each, push_own};
 use fw_addr::{ICMP, ICMPV6, Proto};
@@ -187,7 +187,8 @@ pub fn push_blocks(
     rules: &mut Seq<Rule>,
     chains: &mut Seq<Chain>,
 ) -> Result<(), Memory>
-    ensures { OnOk result (Adds config.now (walk (icmp_denied config.now listed.now inversion)) rules.old rules.new chains.old chains.new) }
+    ensures adds { OnOk result (Adds config.now (walk (icmp_denied config.now listed.now inversion)) rules.old rules.new chains.old chains.new) }
+    ensures names { OnOk result ((parts : ℕ) → AreNamed block.now parts chains.old → AreNamed block.now parts chains.new) }
 {
     let blocks = icmp_settings(alloc, listed.icmp_blocks.as_slice())?;
     if inversion {

@@ -1,5 +1,5 @@
 //! The names of chains.
-ghost use Rattle.std.specs.Prelude.{◌≡◌, IfOk};
+ghost use Rattle.std.specs.Prelude.{◌≡◌, ◌<◌, ◌^◌, IfOk};
 ghost use Rattle.lower_zone.specs.Names.{block_name, own_name, part_name, part_word, policy_block, zone_block};
 
 use fw_base::{Memory, Text};
@@ -53,7 +53,8 @@ pub fn part_name(alloc: Global, part: Part, block: &Text) -> Result<Text, Memory
 
 /// The name of a chain for one condition, by its number in the block.
 pub fn own_name(alloc: Global, number: usize, block: &Text) -> Result<Text, Memory>
-    ensures { IfOk result (λ name. name ≡ own_name number block.now) }
+    ensures named { IfOk result (λ name. name ≡ own_name number block.now) }
+    ensures fits { number < 2 ^ 64 }
 {
     let string = format!(in alloc; "filter_own{number}_{block}")?;
     Ok(Text::from_string(string))

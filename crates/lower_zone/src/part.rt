@@ -1,5 +1,5 @@
 //! Rich rules, part by part.
-ghost use Rattle.std.specs.Prelude.{◌≡◌, List, [], ◌∷◌, Bool, IfOk, OnOk};
+ghost use Rattle.std.specs.Prelude.{◌≡◌, List, [], ◌∷◌, Bool, IfOk, OnOk, ℕ};
 ghost use Rattle.std.specs.List.{flat_map};
 ghost use Rattle.fw_hits.specs.Rich.{hits_rich};
 ghost use Rattle.fw_model.specs.declared.config.Config.{Config};
@@ -10,7 +10,7 @@ ghost use Rattle.fw_verdict.specs.Rich.{acted, acted_as, audit_line, audited, au
 ghost use Rattle.fw_verdict.specs.Walk.{walk};
 ghost use Rattle.nf_rules.specs.declared.chain.Chain.{Chain};
 ghost use Rattle.lower_zone.specs.Verdicts.{line_within, log_line, verdict_of};
-ghost use Rattle.lower_zone.specs.Work.{Adds, Tells};
+ghost use Rattle.lower_zone.specs.Work.{AreNamed, Adds, Tells};
 
 use crate::lines::push_line;
 use crate::rules::{limited, push_decision};
@@ -52,8 +52,9 @@ fn push_within(
     rules: &mut Seq<Rule>,
     chains: &mut Seq<Chain>,
 ) -> Result<(), Memory>
-    ensures { OnOk result ((config : Config) (condition : Packet → Bool) → Tells config alternatives.now condition
+    ensures adds { OnOk result ((config : Config) (condition : Packet → Bool) → Tells config alternatives.now condition
         → Adds config (walk (line_within condition limit line ∷ [])) rules.old rules.new chains.old chains.new) }
+    ensures names { OnOk result ((parts : ℕ) → AreNamed block.now parts chains.old → AreNamed block.now parts chains.new) }
 {
     let within = limited(alloc, alternatives.as_slice(), limit)?;
     push_line(alloc, block, within, line, rules, chains)
@@ -68,8 +69,9 @@ fn push_log(
     rules: &mut Seq<Rule>,
     chains: &mut Seq<Chain>,
 ) -> Result<(), Memory>
-    ensures { OnOk result ((config : Config) → Tells config alternatives.now (hits_rich config rule.now)
+    ensures adds { OnOk result ((config : Config) → Tells config alternatives.now (hits_rich config rule.now)
         → Adds config (walk (logged config rule.now rule.now.log)) rules.old rules.new chains.old chains.new) }
+    ensures names { OnOk result ((parts : ℕ) → AreNamed block.now parts chains.old → AreNamed block.now parts chains.new) }
 {
     let Some(log) = &rule.log else {
         return Ok(());
@@ -88,8 +90,9 @@ fn push_audit_of(
     rules: &mut Seq<Rule>,
     chains: &mut Seq<Chain>,
 ) -> Result<(), Memory>
-    ensures { OnOk result ((config : Config) (rule : Rich) → Tells config alternatives.now (hits_rich config rule)
+    ensures adds { OnOk result ((config : Config) (rule : Rich) → Tells config alternatives.now (hits_rich config rule)
         → Adds config (walk (audited_as config rule limit act)) rules.old rules.new chains.old chains.new) }
+    ensures names { OnOk result ((parts : ℕ) → AreNamed block.now parts chains.old → AreNamed block.now parts chains.new) }
 {
     let Some(name) = audit_name(act) else {
         return Ok(());
@@ -107,8 +110,9 @@ fn push_audit(
     rules: &mut Seq<Rule>,
     chains: &mut Seq<Chain>,
 ) -> Result<(), Memory>
-    ensures { OnOk result ((config : Config) → Tells config alternatives.now (hits_rich config rule.now)
+    ensures adds { OnOk result ((config : Config) → Tells config alternatives.now (hits_rich config rule.now)
         → Adds config (walk (audited config rule.now rule.now.audit rule.now.action)) rules.old rules.new chains.old chains.new) }
+    ensures names { OnOk result ((parts : ℕ) → AreNamed block.now parts chains.old → AreNamed block.now parts chains.new) }
 {
     let Some(limit) = rule.audit else {
         return Ok(());
@@ -128,8 +132,9 @@ fn push_lines(
     rules: &mut Seq<Rule>,
     chains: &mut Seq<Chain>,
 ) -> Result<(), Memory>
-    ensures { OnOk result ((config : Config) → Tells config alternatives.now (hits_rich config rule.now)
+    ensures adds { OnOk result ((config : Config) → Tells config alternatives.now (hits_rich config rule.now)
         → Adds config (walk (lines config rule.now)) rules.old rules.new chains.old chains.new) }
+    ensures names { OnOk result ((parts : ℕ) → AreNamed block.now parts chains.old → AreNamed block.now parts chains.new) }
 {
     push_log(alloc, block, alternatives, rule, rules, chains)?;
     push_audit(alloc, block, alternatives, rule, rules, chains)
@@ -207,7 +212,8 @@ fn push_rule(
     rules: &mut Seq<Rule>,
     chains: &mut Seq<Chain>,
 ) -> Result<(), Memory>
-    ensures { OnOk result (Adds config.now (walk (rule_items config.now part rule.now)) rules.old rules.new chains.old chains.new) }
+    ensures adds { OnOk result (Adds config.now (walk (rule_items config.now part rule.now)) rules.old rules.new chains.old chains.new) }
+    ensures names { OnOk result ((parts : ℕ) → AreNamed block.now parts chains.old → AreNamed block.now parts chains.new) }
 {
     let alternatives = rich_matches(
         alloc,
@@ -242,7 +248,8 @@ pub fn push_rich(
     rules: &mut Seq<Rule>,
     chains: &mut Seq<Chain>,
 ) -> Result<(), Memory>
-    ensures { OnOk result (Adds config.now (walk (rich_items config.now part settings.now.rich)) rules.old rules.new chains.old chains.new) }
+    ensures adds { OnOk result (Adds config.now (walk (rich_items config.now part settings.now.rich)) rules.old rules.new chains.old chains.new) }
+    ensures names { OnOk result ((parts : ℕ) → AreNamed block.now parts chains.old → AreNamed block.now parts chains.new) }
 {
     let ordered = rules_in(alloc, part, settings.rich.as_slice())?;
     push_in_turn(
@@ -265,7 +272,8 @@ fn push_in_turn(
     rules: &mut Seq<Rule>,
     chains: &mut Seq<Chain>,
 ) -> Result<(), Memory>
-    ensures { OnOk result (Adds config.now (walk (flat_map (rule_items config.now part) (lent ordered.now))) rules.old rules.new chains.old chains.new) }
+    ensures adds { OnOk result (Adds config.now (walk (flat_map (rule_items config.now part) (lent ordered.now))) rules.old rules.new chains.old chains.new) }
+    ensures names { OnOk result ((parts : ℕ) → AreNamed block.now parts chains.old → AreNamed block.now parts chains.new) }
 {
     for rule in ordered {
         push_rule(alloc, config, block, part, rule, rules, chains)?;

@@ -4,7 +4,7 @@ ghost use Rattle.fw_model.specs.declared.policy.Policy.{Policy};
 ghost use Rattle.fw_verdict.specs.Items.{items};
 ghost use Rattle.fw_verdict.specs.Walk.{walk};
 ghost use Rattle.lower_zone.specs.Evaluates.{Evaluates};
-ghost use Rattle.lower_zone.specs.Names.{block_name, policy_block};
+ghost use Rattle.lower_zone.specs.Names.{NamesDiffer, block_name, policy_block};
 
 use crate::block::block_chains;
 use crate::names::policy_block;
@@ -28,8 +28,9 @@ fn policy_at(config: &Config, policy: usize) -> &Policy
 /// Refuses for want of memory alone.
 pub fn policy_chains(alloc: Global, runtime: &Runtime, policy: usize) -> Result<Seq<Chain>, Memory>
     requires { policy < length runtime.now.config.policies }
-    ensures { IfOk result (λ chains. (it : Policy) → slice_get runtime.now.config.policies policy ≡ Some it
+    ensures evaluates { IfOk result (λ chains. (it : Policy) → slice_get runtime.now.config.policies policy ≡ Some it
         → Evaluates runtime.now.config chains (block_name (policy_block it.name)) (walk (items runtime.now.config it.rules false))) }
+    ensures names { IfOk result (λ chains. (it : Policy) → slice_get runtime.now.config.policies policy ≡ Some it → NamesDiffer (policy_block it.name) chains) }
 {
     let config = &runtime.config;
     let policy = policy_at(config, policy);

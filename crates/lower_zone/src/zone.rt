@@ -4,7 +4,7 @@ ghost use Rattle.fw_model.specs.declared.zone.Zone.{Zone};
 ghost use Rattle.fw_verdict.specs.Items.{items};
 ghost use Rattle.fw_verdict.specs.Walk.{walk};
 ghost use Rattle.lower_zone.specs.Evaluates.{Evaluates};
-ghost use Rattle.lower_zone.specs.Names.{block_name, zone_block};
+ghost use Rattle.lower_zone.specs.Names.{NamesDiffer, block_name, zone_block};
 
 use crate::block::block_chains;
 use crate::names::zone_block;
@@ -29,8 +29,9 @@ fn zone_at(config: &Config, zone: usize) -> &Zone
 /// Refuses for want of memory alone.
 pub fn zone_chains(alloc: Global, runtime: &Runtime, zone: usize) -> Result<Seq<Chain>, Memory>
     requires { zone < length runtime.now.config.zones }
-    ensures { IfOk result (λ chains. (it : Zone) → slice_get runtime.now.config.zones zone ≡ Some it
+    ensures evaluates { IfOk result (λ chains. (it : Zone) → slice_get runtime.now.config.zones zone ≡ Some it
         → Evaluates runtime.now.config chains (block_name (zone_block it.name)) (walk (items runtime.now.config it.rules it.inversion))) }
+    ensures names { IfOk result (λ chains. (it : Zone) → slice_get runtime.now.config.zones zone ≡ Some it → NamesDiffer (zone_block it.name) chains) }
 {
     let config = &runtime.config;
     let zone = zone_at(config, zone);

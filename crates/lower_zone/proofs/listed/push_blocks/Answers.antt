@@ -1,4 +1,5 @@
 use Rattle.std.proofs.Common.{◌≡◌, ◌∙◌, List, Bool, map, sym, ap, refl, subst}
+use Rattle.lower_zone.proofs.Apart.{named_own}
 use Rattle.std.proofs.lemmas.Result.{on_ok_weaker}
 use Rattle.fw_addr.specs.declared.reject.RejectType.TheVariants.{IcmpxAdminProhibited}
 use Rattle.fw_model.specs.declared.outcome.Verdict.TheVariants.{Reject}
@@ -10,8 +11,8 @@ use Rattle.lower_zone.specs.Work.{Adds}
 use Rattle.lower_zone.proofs.Items.{adds_others, twice}
 use Rattle.lower_zone.proofs.listed.push_blocks.Goals as goal
 
-pub returns-then-inversion : goal.returns-then-inversion
-returns-then-inversion c =
+pub returns-then-inversion-clause-adds : goal.returns-then-inversion-clause-adds
+returns-then-inversion-clause-adds c =
     let config = c.args.config.now in
     on_ok_weaker c.push_own.result
     (λ has.
@@ -21,8 +22,8 @@ returns-then-inversion c =
     c.in_ok-matches.ensures c.in_ok-own.ensures has))
     c.push_own.ensures
 
-pub returns : goal.returns
-returns c =
+pub returns-clause-adds : goal.returns-clause-adds
+returns-clause-adds c =
     let config = c.args.config.now in
     let reject = decided_by config (Reject IcmpxAdminProhibited) in
     on_ok_weaker c.push_settings.result
@@ -33,3 +34,7 @@ returns c =
     ∙ twice reject setting.IcmpBlock c.args.listed.now.icmp_blocks)
     (added c.args.chains.now (λ packet. refl))))
     c.push_settings.ensures
+
+pub returns-then-inversion-clause-names : goal.returns-then-inversion-clause-names
+returns-then-inversion-clause-names c =
+    on_ok_weaker c.push_own.result (λ has parts named. named_own c.args.block.now _ _ _ _ _ parts has named) c.push_own.ensures

@@ -8,24 +8,24 @@ use Rattle.lower_zone.specs.Work.{Adds}
 use Rattle.lower_zone.proofs.Works.{adds_nothing}
 use Rattle.lower_zone.proofs.part.push_audit.Goals as goal
 
-pub returns-in_default : goal.returns-in_default
-returns-in_default c = λ config tells.
+pub returns-in_default-clause-adds : goal.returns-in_default-clause-adds
+returns-in_default-clause-adds c = λ config tells.
     subst (λ (told : Option (Option Limit)). Adds config (walk (audited config c.args.rule.now told c.args.rule.now.action)) c.args.rules.now c.args.rules.now c.args.chains.now c.args.chains.now)
     (sym c.in_default.is) (adds_nothing config c.args.rules.now c.args.chains.now)
 
-pub returns-in_default-action : goal.returns-in_default-action
-returns-in_default-action c = λ config tells.
+pub returns-in_default-action-clause-adds : goal.returns-in_default-action-clause-adds
+returns-in_default-action-clause-adds c = λ config tells.
     subst (λ (told : Option (Option Limit)). Adds config (walk (audited config c.args.rule.now told c.args.rule.now.action)) c.args.rules.now c.args.rules.now c.args.chains.now c.args.chains.now)
     (sym c.in-Some.is)
     (subst (λ (action : Option Action). Adds config (walk (audited config c.args.rule.now (Some c.in-Some.limit) action)) c.args.rules.now c.args.rules.now c.args.chains.now c.args.chains.now)
     (sym c.in_default-action.is) (adds_nothing config c.args.rules.now c.args.chains.now))
 
-pub returns : goal.returns
-returns c =
+pub returns-clause-adds : goal.returns-clause-adds
+returns-clause-adds c =
     on_ok_weaker c.push_audit_of.result
     (λ adds config tells.
     subst (λ (told : Option (Option Limit)). Adds config (walk (audited config c.args.rule.now told c.args.rule.now.action)) c.args.rules.now c.push_audit_of.new.rules c.args.chains.now c.push_audit_of.new.chains)
     (sym c.in-Some.is)
     (subst (λ (action : Option Action). Adds config (walk (audited config c.args.rule.now (Some c.in-Some.limit) action)) c.args.rules.now c.push_audit_of.new.rules c.args.chains.now c.push_audit_of.new.chains)
     (sym c.in-Some-action.is) (adds config c.args.rule.now tells)))
-    c.push_audit_of.ensures
+    c.push_audit_of.ensures.adds

@@ -9,10 +9,10 @@ use Rattle.fw_verdict.specs.Walk.{walk}
 use Rattle.lower_zone.specs.Work.{Adds}
 use Rattle.lower_zone.proofs.part.push_rich.Goals as goal
 
-pub returns : goal.returns
-returns c =
+pub returns-clause-adds : goal.returns-clause-adds
+returns-clause-adds c =
     on_ok_weaker c.push_in_turn.result
     (λ added.
     subst (λ (list : List Rich). Adds c.args.config.now (walk (flat_map (rule_items c.args.config.now c.args.part) list)) c.args.rules.now c.push_in_turn.new.rules c.args.chains.now c.push_in_turn.new.chains)
     (ap lent c.as_slice-2.ensures.value ∙ c.in_ok-ordered.ensures ∙ ap (λ (list : List Rich). by_priority (filter (stands_in c.args.part) list)) c.as_slice.ensures) added)
-    c.push_in_turn.ensures
+    c.push_in_turn.ensures.adds

@@ -9,18 +9,18 @@ use Rattle.lower_zone.proofs.Tells.{tells_setting}
 use Rattle.lower_zone.proofs.Works.{adds_lists}
 use Rattle.lower_zone.proofs.part.push_rule.Goals as goal
 
-pub returns-in-Log : goal.returns-in-Log
-returns-in-Log c =
+pub returns-in-Log-clause-adds : goal.returns-in-Log-clause-adds
+returns-in-Log-clause-adds c =
     let config = c.args.config.now in
     let rule = c.args.rule.now in
     on_ok_weaker c.push_lines.result
     (λ adds.
     subst (λ (stage : Part). Adds config (walk (rule_items config stage rule)) c.args.rules.now c.push_lines.new.rules c.args.chains.now c.push_lines.new.chains)
     (sym c.in-Log.is) (adds config (tells_setting config (setting.Rich rule) c.in_ok-alternatives.alternatives c.as_slice.result.now c.as_slice-2.result.now c.as_slice.ensures c.as_slice-2.ensures c.in_ok-alternatives.ensures)))
-    c.push_lines.ensures
+    c.push_lines.ensures.adds
 
-pub returns-in-Deny : goal.returns-in-Deny
-returns-in-Deny c =
+pub returns-in-Deny-clause-adds : goal.returns-in-Deny-clause-adds
+returns-in-Deny-clause-adds c =
     let config = c.args.config.now in
     let rule = c.args.rule.now in
     on_ok_weaker c.push_action.result
@@ -29,8 +29,8 @@ returns-in-Deny c =
     (sym c.in-Deny.is) (adds config c.args.chains.now (tells_setting config (setting.Rich rule) c.in_ok-alternatives.alternatives c.as_slice.result.now c.as_slice-2.result.now c.as_slice.ensures c.as_slice-2.ensures c.in_ok-alternatives.ensures)))
     c.push_action.ensures
 
-pub returns-in-Allow : goal.returns-in-Allow
-returns-in-Allow c =
+pub returns-in-Allow-clause-adds : goal.returns-in-Allow-clause-adds
+returns-in-Allow-clause-adds c =
     let config = c.args.config.now in
     let rule = c.args.rule.now in
     on_ok_weaker c.push_action-in-Allow.result
@@ -39,8 +39,8 @@ returns-in-Allow c =
     (sym c.in-Allow.is) (adds config c.args.chains.now (tells_setting config (setting.Rich rule) c.in_ok-alternatives.alternatives c.as_slice.result.now c.as_slice-2.result.now c.as_slice.ensures c.as_slice-2.ensures c.in_ok-alternatives.ensures)))
     c.push_action-in-Allow.ensures
 
-pub returns-in_ok-push_lines-in-Pre : goal.returns-in_ok-push_lines-in-Pre
-returns-in_ok-push_lines-in-Pre c =
+pub returns-in_ok-push_lines-in-Pre-clause-adds : goal.returns-in_ok-push_lines-in-Pre-clause-adds
+returns-in_ok-push_lines-in-Pre-clause-adds c =
     let config = c.args.config.now in
     let rule = c.args.rule.now in
     let tells = tells_setting config (setting.Rich rule) c.in_ok-alternatives.alternatives c.as_slice.result.now c.as_slice-2.result.now c.as_slice.ensures c.as_slice-2.ensures c.in_ok-alternatives.ensures in
@@ -48,11 +48,11 @@ returns-in_ok-push_lines-in-Pre c =
     (λ adds.
     subst (λ (stage : Part). Adds config (walk (rule_items config stage rule)) c.args.rules.now c.push_action-in-Pre.new.rules c.args.chains.now c.push_lines-in-Pre.new.chains)
     (sym c.in-Pre.is)
-    (adds_lists config (lines config rule) (acted config rule rule.action) _ _ _ _ _ _ (c.in_ok-push_lines-in-Pre.ensures config tells) (adds config _ tells)))
+    (adds_lists config (lines config rule) (acted config rule rule.action) _ _ _ _ _ _ (c.in_ok-push_lines-in-Pre.ensures.adds config tells) (adds config _ tells)))
     c.push_action-in-Pre.ensures
 
-pub returns-in_ok-push_lines-in-Post : goal.returns-in_ok-push_lines-in-Post
-returns-in_ok-push_lines-in-Post c =
+pub returns-in_ok-push_lines-in-Post-clause-adds : goal.returns-in_ok-push_lines-in-Post-clause-adds
+returns-in_ok-push_lines-in-Post-clause-adds c =
     let config = c.args.config.now in
     let rule = c.args.rule.now in
     let tells = tells_setting config (setting.Rich rule) c.in_ok-alternatives.alternatives c.as_slice.result.now c.as_slice-2.result.now c.as_slice.ensures c.as_slice-2.ensures c.in_ok-alternatives.ensures in
@@ -60,5 +60,5 @@ returns-in_ok-push_lines-in-Post c =
     (λ adds.
     subst (λ (stage : Part). Adds config (walk (rule_items config stage rule)) c.args.rules.now c.push_action-in-Post.new.rules c.args.chains.now c.push_lines-in-Post.new.chains)
     (sym c.in-Post.is)
-    (adds_lists config (lines config rule) (acted config rule rule.action) _ _ _ _ _ _ (c.in_ok-push_lines-in-Post.ensures config tells) (adds config _ tells)))
+    (adds_lists config (lines config rule) (acted config rule rule.action) _ _ _ _ _ _ (c.in_ok-push_lines-in-Post.ensures.adds config tells) (adds config _ tells)))
     c.push_action-in-Post.ensures
