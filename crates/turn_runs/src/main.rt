@@ -5,7 +5,7 @@
 use anyhow::{Result, anyhow};
 use std::alloc::Global;
 use std::sync::Wait;
-use turn_core::Tried;
+use turn_core::{Journaled, Tried};
 use turn_rows::{Entry, Journal, run_four, run_one, run_two, start, take};
 
 const COMMITS: u64 = 1000;
@@ -46,8 +46,8 @@ fn found<R: Wait>(rt: &R, alloc: Global) -> Option<(u64, u64)> {
     let Tried::Busy(held) = turn.try_take(&mut second) else {
         return None;
     };
-    let (session, number) = (0, 0);
-    if !journal.add(Entry { session, number }) {
+    let session = journal.len();
+    if !journal.add(Entry { session, number: 0 }) {
         return None;
     }
     turn.commit(&mut first, journal);
@@ -81,7 +81,9 @@ fn order(alloc: Global, entries: &[Entry]) -> Result<&'static str> {
             .iter()
             .position(|(session, _)| *session == entry.session);
         match known {
-            Some(at) if sessions[at].1 == entry.number => sessions[at].1 += 1,
+            Some(at) if sessions[at].1 == entry.number => {
+                sessions[at].1 = entry.number.saturating_add(1);
+            }
             None if entry.session == place as u64 && entry.number == 0 => {
                 sessions.push((entry.session, 1))?;
             }
