@@ -5,6 +5,8 @@
 //! what becomes of a packet, `faults` what is wrong with each policy, and `clear` begins anew.
 #![tactic(auto)]
 
+ghost use Rattle.std.specs.Prelude.{◌<◌, IfSome, length};
+
 mod policies;
 
 use anyhow::Result;
@@ -75,7 +77,9 @@ fn bind(config: &mut Config, words: &[&str]) -> Result<(), LineError> {
 }
 
 /// The place of a zone.
-fn place_of(config: &Config, name: &str) -> Option<usize> {
+fn place_of(config: &Config, name: &str) -> Option<usize>
+    ensures { IfSome result (λ place. place < length config.now.zones) }
+{
     config
         .zones
         .as_slice()
