@@ -1,9 +1,9 @@
 -- What holds of each item of a list, by places.
-use Rattle.std.proofs.Common.{◌≡◌, ◌≢◌, ◌∙◌, ℕ, zero, suc, ◌+◌, ◌⊎◌, inl, inr, Bool, true, false, ◌&&◌, ◌||◌, List, [], ◌∷◌, length, map, Some, None, slice_get, take, drop, refl, sym, ap, subst, add-one, IsTrue}
+use Rattle.std.proofs.Common.{◌≡◌, ◌≢◌, ◌∙◌, ℕ, zero, suc, ◌+◌, inl, inr, Bool, true, false, List, [], ◌∷◌, length, map, Some, slice_get, take, drop, refl, sym, ap, subst, add-one}
 use Rattle.std.specs.Bool.{Decides}
 use Rattle.std.specs.List.{list_all, list_any}
 use Rattle.std.specs.Str.{bytes_eq}
-use Rattle.std.proofs.lemmas.Bool.{and_from, and_parts, false≢true}
+use Rattle.std.proofs.lemmas.Bool.{false≢true}
 use Rattle.std.proofs.lemmas.Bool.Decides.{Decides-and, Decides-or}
 use Rattle.std.proofs.lemmas.Slice.Eq.{bytes_eq-Decides}
 use Rattle.fw_valid.specs.Each.{Each, IsWithoutRepeats}
@@ -98,3 +98,17 @@ pub map_drop : {A B : Type 0} (of : A → B) (place : ℕ) (items : List A) → 
 map_drop of zero items = refl
 map_drop of (suc place) [] = refl
 map_drop of (suc place) (item ∷ items) = map_drop of place items
+
+-- Two tests one behind the other.
+module _ {P Q : Type 0} (one other : Bool) where
+  pub so_behind : Decides one P → one ≡ true → Decides other Q → Decides other (P × Q)
+  so_behind first is second = (λ so. (first.0 is, second.0 so), λ both. second.1 both.1)
+
+  pub not_so : Decides one P → one ≡ false → Decides one (P × Q)
+  not_so first is = (λ so. absurd (false≢true (sym is ∙ so)), λ both. first.1 both.0)
+
+-- a test of names in another list that is the same
+pub among_same : {A : Type 0} (name_of : A → List ℕ) (result : Bool) (items others : List A) (name other : List ℕ) → items ≡ others → name ≡ other
+    → Decides result (IsIn name (map name_of items)) → Decides result (IsIn other (map name_of others))
+among_same name_of result items others name other same same' decides =
+    subst (λ one. Decides result (IsIn one (map name_of others))) same' (subst (λ list. Decides result (IsIn name (map name_of list))) same decides)

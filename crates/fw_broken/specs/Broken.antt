@@ -1,5 +1,5 @@
 -- The rules of a valid configuration in their order, and the first of them that a configuration breaks.
-use Rattle.std.specs.Prelude.{ℕ, List, [], ◌∷◌, take}
+use Rattle.std.specs.Prelude.{◌≡◌, ℕ, List, [], ◌∷◌, Some, slice_get, take}
 use Rattle.fw_broken.specs.declared.rule.Rule.{Rule}
 use Rattle.fw_broken.specs.declared.rule.Rule.TheVariants as rule
 use Rattle.fw_model.specs.declared.config.Config.{Config}
@@ -35,19 +35,18 @@ number rule.Policies = 7
 number rule.Repeats = 8
 number rule.Written = 9
 
--- the rules that are told before one
-abbrev pub earlier : Rule → List Rule
-earlier rule.Names = []
-earlier rule.DefaultZone = rule.Names ∷ []
-earlier rule.Interfaces = rule.Names ∷ rule.DefaultZone ∷ []
-earlier rule.Sources = rule.Names ∷ rule.DefaultZone ∷ rule.Interfaces ∷ []
-earlier rule.Ipsets = rule.Names ∷ rule.DefaultZone ∷ rule.Interfaces ∷ rule.Sources ∷ []
-earlier rule.Known = rule.Names ∷ rule.DefaultZone ∷ rule.Interfaces ∷ rule.Sources ∷ rule.Ipsets ∷ []
-earlier rule.Policies = rule.Names ∷ rule.DefaultZone ∷ rule.Interfaces ∷ rule.Sources ∷ rule.Ipsets ∷ rule.Known ∷ []
-earlier rule.Repeats = rule.Names ∷ rule.DefaultZone ∷ rule.Interfaces ∷ rule.Sources ∷ rule.Ipsets ∷ rule.Known ∷ rule.Policies ∷ []
-earlier rule.Written = rule.Names ∷ rule.DefaultZone ∷ rule.Interfaces ∷ rule.Sources ∷ rule.Ipsets ∷ rule.Known ∷ rule.Policies ∷ rule.Repeats ∷ []
+-- all of them, in this order
+abbrev pub rules : List Rule
+rules =
+    rule.Names ∷ rule.DefaultZone ∷ rule.Interfaces ∷ rule.Sources ∷ rule.Ipsets ∷ rule.Known ∷ rule.Policies ∷ rule.Repeats ∷ rule.Written ∷ []
 
--- a rule that a configuration breaks, where it keeps each that is told before
-pub record IsFirstBroken (config : Config) (rule : Rule) : Type 0 where
+-- the first of some rules that a configuration doesn't keep
+pub record IsFirstAmong (config : Config) (among : List Rule) (rule : Rule) : Type 0 where
+  pub place : ℕ
+  pub at : slice_get among place ≡ Some rule
   pub broken : ¬ (Holds config rule)
-  pub kept : Each (Holds config) (earlier rule)
+  pub kept : Each (Holds config) (take place among)
+
+-- the first of all
+abbrev pub IsFirstBroken : Config → Rule → Type 0
+IsFirstBroken config rule = IsFirstAmong config rules rule

@@ -5,6 +5,8 @@ use Rattle.fw_model.specs.declared.binding.Binding.TheVariants as binding
 use Rattle.fw_model.specs.declared.config.Config.{Config}
 use Rattle.fw_model.specs.declared.rich.Element.TheVariants as element
 use Rattle.fw_model.specs.declared.rich.Rich.{Rich}
+use Rattle.fw_model.specs.declared.rules.Rules.{Rules}
+use Rattle.fw_valid.specs.Each.{Each}
 use Rattle.fw_valid.specs.Names.{IsIcmpType, ipset_names, service_names}
 use Rattle.fw_valid.specs.Rules.{NamesSet}
 use Rattle.fw_zone.specs.Lists.{IsIn}
@@ -29,3 +31,9 @@ IsTypeKnown config name = IsIcmpType name
 pub record IsElementKnown (config : Config) (rule : Rich) : Type 0 where
   pub service : (name : List ℕ) → rule.element ≡ Some (element.Service name) → IsIn name (service_names config)
   pub icmp_type : (name : List ℕ) → ((rule.element ≡ Some (element.IcmpBlock name)) ⊎ (rule.element ≡ Some (element.IcmpType name))) → IsIcmpType name
+
+-- the same of the settings of a zone or a policy, one by one
+pub record AreKnownOneByOne (config : Config) (rules : Rules) : Type 0 where
+  pub services : Each (IsServiceKnown config) rules.services
+  pub icmp_types : Each (IsTypeKnown config) rules.icmp_blocks
+  pub elements : Each (IsElementKnown config) rules.rich

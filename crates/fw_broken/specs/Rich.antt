@@ -1,6 +1,5 @@
 -- What is asked of a rich rule, in the order in which it is looked at.
 use Rattle.std.specs.Prelude.{IsNone, IsTrue}
-use Rattle.fw_addr.specs.declared.packet.Family.{Family}
 use Rattle.fw_model.specs.declared.rich.Action.{Action}
 use Rattle.fw_model.specs.declared.rich.Rich.{Rich}
 use Rattle.fw_model.specs.declared.rich.RichLog.{RichLog}

@@ -1,13 +1,14 @@
 //! The first rule that a configuration breaks.
 ghost use Rattle.std.specs.Prelude.{◌≡◌, ◌↔◌, None, IfSome, IsTrue};
-ghost use Rattle.fw_broken.specs.Broken.{IsFirstBroken};
+ghost use Rattle.fw_broken.specs.Broken.{Holds, IsFirstAmong, IsFirstBroken};
 ghost use Rattle.fw_valid.specs.Each.{Each};
+ghost use Rattle.fw_valid.specs.Valid.{IsInOneZone, IsValid};
 ghost use Rattle.fw_valid.specs.Policies.{IsPolicy};
-ghost use Rattle.fw_valid.specs.Valid.{IsValid};
+ghost use Rattle.fw_zone.specs.Bindings.{interfaces_of, sources_of, with_interfaces, with_sources};
 
 use super::each::{Question, each};
 use super::known::are_known;
-use super::names::{are_named, has_name};
+use super::names::{are_named, has_default_zone};
 use super::one_zone::is_in_one_zone;
 use super::repeats::has_no_repeats;
 use super::rule::Rule;
@@ -31,30 +32,72 @@ impl Question<Policy> for PolicyFaultless {
     }
 }
 
-/// The first rule of a valid configuration that a configuration breaks. There is none exactly where it is valid. It takes no memory.
+fn are_policies(config: &Config) -> bool
+    ensures { IsTrue result ↔ Each (IsPolicy config.now) config.now.policies }
+{
+    each::<PolicyFaultless, Policy>(config, config.policies.as_slice())
+}
+
+fn are_interfaces_in_one_zone(config: &Config) -> bool
+    ensures { IsTrue result ↔ IsInOneZone interfaces_of with_interfaces config.now.zones }
+{
+    is_in_one_zone::<Iface>(config.zones.as_slice())
+}
+
+fn are_sources_in_one_zone(config: &Config) -> bool
+    ensures { IsTrue result ↔ IsInOneZone sources_of with_sources config.now.zones }
+{
+    is_in_one_zone::<Binding>(config.zones.as_slice())
+}
+
+/// Whether a configuration keeps a rule.
+fn keeps(config: &Config, rule: Rule) -> bool
+    ensures { IsTrue result ↔ Holds config.now rule }
+{
+    match rule {
+        Rule::Names => are_named(config),
+        Rule::DefaultZone => has_default_zone(config),
+        Rule::Interfaces => are_interfaces_in_one_zone(config),
+        Rule::Sources => are_sources_in_one_zone(config),
+        Rule::Ipsets => are_sets(config),
+        Rule::Known => are_known(config),
+        Rule::Policies => are_policies(config),
+        Rule::Repeats => has_no_repeats(config),
+        Rule::Written => are_written(config),
+    }
+}
+
+/// The first of some rules that a configuration breaks.
+fn first_broken(config: &Config, rules: &[Rule]) -> Option<Rule>
+    ensures none { (result ≡ None) ↔ Each (Holds config.now) rules.now }
+    ensures first { IfSome result (IsFirstAmong config.now rules.now) }
+{
+    for place in 0..rules.len() {
+        if !keeps(config, rules[place]) {
+            return Some(rules[place]);
+        }
+    }
+    None
+}
+
+/// The first rule of a valid configuration that a configuration breaks, in the order of their numbers. There is none exactly where it is
+/// valid. It takes no memory.
 pub fn broken_rule(config: &Config) -> Option<Rule>
     ensures valid { (result ≡ None) ↔ IsValid config.now }
     ensures first { IfSome result (IsFirstBroken config.now) }
 {
-    if !are_named(config) {
-        Some(Rule::Names)
-    } else if !has_name(config.zones.as_slice(), config.default_zone.as_str()) {
-        Some(Rule::DefaultZone)
-    } else if !is_in_one_zone::<Iface>(config.zones.as_slice()) {
-        Some(Rule::Interfaces)
-    } else if !is_in_one_zone::<Binding>(config.zones.as_slice()) {
-        Some(Rule::Sources)
-    } else if !are_sets(config) {
-        Some(Rule::Ipsets)
-    } else if !are_known(config) {
-        Some(Rule::Known)
-    } else if !each::<PolicyFaultless, Policy>(config, config.policies.as_slice()) {
-        Some(Rule::Policies)
-    } else if !has_no_repeats(config) {
-        Some(Rule::Repeats)
-    } else if !are_written(config) {
-        Some(Rule::Written)
-    } else {
-        None
-    }
+    first_broken(
+        config,
+        &[
+            Rule::Names,
+            Rule::DefaultZone,
+            Rule::Interfaces,
+            Rule::Sources,
+            Rule::Ipsets,
+            Rule::Known,
+            Rule::Policies,
+            Rule::Repeats,
+            Rule::Written,
+        ],
+    )
 }

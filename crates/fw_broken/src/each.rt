@@ -1,5 +1,6 @@
 //! Questions about each item of a list.
-ghost use Rattle.std.specs.Prelude.{◌↔◌, ◌++◌, List, IsTrue, map};
+ghost use Rattle.std.specs.Prelude.{◌≡◌, ◌↔◌, List, IsTrue};
+ghost use Rattle.fw_model.specs.declared.config.Config.{Config};
 ghost use Rattle.fw_model.specs.declared.rules.Rules.{Rules};
 ghost use Rattle.fw_valid.specs.Each.{Each};
 ghost use Rattle.fw_valid.specs.Rules.{all_rules};
@@ -56,7 +57,7 @@ impl Ruled for Policy {
 
 /// Whether it is so of the settings of each item.
 fn each_of<Q: Question<Rules>, T: Ruled>(config: &Config, items: &[T]) -> bool
-    ensures { IsTrue result ↔ Each (Q.asked config.now) (map T.rules_of items.now) }
+    ensures { IsTrue result ↔ Each (λ item. Q.asked config.now (T.rules_of item)) items.now }
 {
     for place in 0..items.len() {
         if !Q::is_so(config, items[place].rules()) {

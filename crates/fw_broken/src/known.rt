@@ -1,11 +1,12 @@
 //! Services and ICMP types where they are named.
 ghost use Rattle.std.specs.Prelude.{◌≡◌, ◌↔◌, ℕ, List, IsTrue};
 ghost use Rattle.fw_addr.specs.Subnets.{family as family_of};
+ghost use Rattle.fw_broken.specs.Named.{AreKnownOneByOne};
 ghost use Rattle.fw_valid.specs.Each.{IfThere};
 ghost use Rattle.fw_valid.specs.Valid.{AreKnown};
 
 use super::each::{Question, each, each_rules};
-use super::names::has_name;
+use super::names::is_service;
 use fw_addr::{Family, Net, icmp_numbers};
 use fw_base::Text;
 use fw_model::{Config, Element, Rich, Rules, Service};
@@ -19,7 +20,7 @@ impl Question<Text> for ServiceKnown {
     ghost asked = { IsServiceKnown };
 
     fn is_so(config: &Config, item: &Text) -> bool {
-        has_name(config.services.as_slice(), item.as_str())
+        is_service(config, item.as_str())
     }
 }
 
@@ -54,6 +55,14 @@ impl Question<Rich> for ElementKnown {
     }
 }
 
+fn are_known_one_by_one(config: &Config, rules: &Rules) -> bool
+    ensures { IsTrue result ↔ AreKnownOneByOne config.now rules.now }
+{
+    each::<ServiceKnown, Text>(config, rules.services.as_slice())
+        && each::<TypeKnown, Text>(config, rules.icmp_blocks.as_slice())
+        && each::<ElementKnown, Rich>(config, rules.rich.as_slice())
+}
+
 /// The services and ICMP types that the settings of a zone or a policy name are there.
 struct RulesKnown;
 
@@ -63,9 +72,7 @@ impl Question<Rules> for RulesKnown {
     ghost asked = { NamesKnown };
 
     fn is_so(config: &Config, item: &Rules) -> bool {
-        each::<ServiceKnown, Text>(config, item.services.as_slice())
-            && each::<TypeKnown, Text>(config, item.icmp_blocks.as_slice())
-            && each::<ElementKnown, Rich>(config, item.rich.as_slice())
+        are_known_one_by_one(config, item)
     }
 }
 

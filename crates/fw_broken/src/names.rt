@@ -4,7 +4,7 @@ ghost use Rattle.std.specs.List.{list_all, list_any};
 ghost use Rattle.std.specs.Str.{bytes_eq};
 ghost use Rattle.fw_addr.specs.WellFormed.{is_name};
 ghost use Rattle.fw_valid.specs.Each.{IsWithoutRepeats};
-ghost use Rattle.fw_valid.specs.Names.{AreNamed, AreNames};
+ghost use Rattle.fw_valid.specs.Names.{AreNamed, AreNames, ipset_names, policy_names, service_names, zone_names};
 ghost use Rattle.fw_zone.specs.Lists.{IsIn};
 
 use fw_addr::is_well_formed_name;
@@ -13,7 +13,7 @@ use fw_model::{Config, IpSet, Policy, Service, Zone};
 use fw_policy::{ANY, HOST};
 
 /// What has a name of its own.
-pub trait Named {
+trait Named {
     /// The name.
     ghost name_of: { Self → List ℕ };
 
@@ -61,7 +61,7 @@ fn any_is_called<T: Named>(items: &[T], name: &str) -> bool
 }
 
 /// Whether a name is one of theirs.
-pub fn has_name<T: Named>(items: &[T], name: &str) -> bool
+fn has_name<T: Named>(items: &[T], name: &str) -> bool
     ensures { IsTrue result ↔ IsIn name.now (map T.name_of items.now) }
 {
     any_is_called(items, name)
@@ -70,9 +70,7 @@ pub fn has_name<T: Named>(items: &[T], name: &str) -> bool
 fn all_are_well_formed<T: Named>(items: &[T]) -> bool
     ensures { result ≡ list_all (λ item. is_name (T.name_of item)) items.now }
 {
-    items
-        .iter()
-        .all(|item| is_well_formed_name(item.name()))
+    items.iter().all(|item| is_well_formed_name(item.name()))
 }
 
 /// Whether no two names are alike.
@@ -94,14 +92,66 @@ fn are_names<T: Named>(items: &[T]) -> bool
     all_are_well_formed(items) && differ(items)
 }
 
+fn are_zones_named(config: &Config) -> bool
+    ensures { IsTrue result ↔ AreNames (zone_names config.now) }
+{
+    are_names(config.zones.as_slice())
+}
+
+fn are_policies_named(config: &Config) -> bool
+    ensures { IsTrue result ↔ AreNames (policy_names config.now) }
+{
+    are_names(config.policies.as_slice())
+}
+
+fn are_services_named(config: &Config) -> bool
+    ensures { IsTrue result ↔ AreNames (service_names config.now) }
+{
+    are_names(config.services.as_slice())
+}
+
+fn are_ipsets_named(config: &Config) -> bool
+    ensures { IsTrue result ↔ AreNames (ipset_names config.now) }
+{
+    are_names(config.ipsets.as_slice())
+}
+
+/// Whether a zone is called so.
+fn is_zone(config: &Config, name: &str) -> bool
+    ensures { IsTrue result ↔ IsIn name.now (zone_names config.now) }
+{
+    has_name(config.zones.as_slice(), name)
+}
+
+/// Whether a service is called so.
+pub fn is_service(config: &Config, name: &str) -> bool
+    ensures { IsTrue result ↔ IsIn name.now (service_names config.now) }
+{
+    has_name(config.services.as_slice(), name)
+}
+
+/// Whether an ipset is called so.
+pub fn is_ipset(config: &Config, name: &str) -> bool
+    ensures { IsTrue result ↔ IsIn name.now (ipset_names config.now) }
+{
+    has_name(config.ipsets.as_slice(), name)
+}
+
+/// Whether the default zone is there.
+pub fn has_default_zone(config: &Config) -> bool
+    ensures { IsTrue result ↔ IsIn config.now.default_zone (zone_names config.now) }
+{
+    is_zone(config, config.default_zone.as_str())
+}
+
 /// Whether names are well formed, and unique in their kind, and no zone is called `HOST` or `ANY`.
 pub fn are_named(config: &Config) -> bool
     ensures { IsTrue result ↔ AreNamed config.now }
 {
-    are_names(config.zones.as_slice())
-        && are_names(config.policies.as_slice())
-        && are_names(config.services.as_slice())
-        && are_names(config.ipsets.as_slice())
-        && !has_name(config.zones.as_slice(), HOST)
-        && !has_name(config.zones.as_slice(), ANY)
+    are_zones_named(config)
+        && are_policies_named(config)
+        && are_services_named(config)
+        && are_ipsets_named(config)
+        && !is_zone(config, HOST)
+        && !is_zone(config, ANY)
 }

@@ -1,16 +1,16 @@
 //! Interfaces and sources, each of at most one zone.
 ghost use Rattle.std.specs.Prelude.{◌≡◌, ◌↔◌, ℕ, List, IfSome, IsSome, IsTrue};
 ghost use Rattle.fw_model.specs.declared.zone.Zone.{Zone};
+ghost use Rattle.fw_valid.specs.Each.{Each};
 ghost use Rattle.fw_valid.specs.Valid.{IsInOneZone};
 ghost use Rattle.fw_zone.specs.Bindings.{IsFirstListed, IsListed};
-ghost use Rattle.fw_zone.specs.Lists.{IsIn};
 
 use fw_addr::Iface;
 use fw_model::{Binding, Zone};
 use fw_zone::{zone_of_iface, zone_of_source};
 
 /// An entry by which packets belong to a zone.
-pub trait Entry {
+trait Entry {
     /// The entries of its kind in a zone.
     ghost of: { Zone → List Self };
 
@@ -73,7 +73,7 @@ fn is_first_at<T: Entry>(zones: &[Zone], place: usize, entry: &T) -> bool
 
 /// Whether the first zone that lists each of these entries is the one at a place.
 fn are_first_at<T: Entry>(zones: &[Zone], place: usize, entries: &[T]) -> bool
-    ensures { IsTrue result ↔ ((entry : _) → IsIn entry entries.now → IsFirstListed T.of T.with zones.now place entry) }
+    ensures { IsTrue result ↔ Each (λ entry. IsFirstListed T.of T.with zones.now place entry) entries.now }
 {
     for at in 0..entries.len() {
         if !is_first_at(zones, place, &entries[at]) {

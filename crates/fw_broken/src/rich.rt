@@ -1,5 +1,5 @@
 //! Rich rules as the language has them (firewalld.richlanguage(5)).
-ghost use Rattle.std.specs.Prelude.{◌≡◌, ◌≢◌, ◌↔◌, ℕ, ◌==◌, nat_le, not, ◌&&◌, ◌×◌, IsNone, IsSome, IsTrue, pos};
+ghost use Rattle.std.specs.Prelude.{◌≡◌, ◌≢◌, ◌↔◌, ℕ, ◌==◌, nat_le, not, ◌&&◌, IsNone, IsSome, IsTrue, pos};
 ghost use Rattle.std.specs.List.{list_all};
 ghost use Rattle.fw_addr.specs.Subnets.{family as family_of};
 ghost use Rattle.fw_addr.specs.declared.packet.Family.TheVariants as families;

@@ -1,15 +1,17 @@
 //! Ipsets where they are named, and their items.
-ghost use Rattle.std.specs.Prelude.{◌≡◌, ◌↔◌, ℕ, List, Option, IsTrue};
+ghost use Rattle.std.specs.Prelude.{◌≡◌, ◌↔◌, ℕ, List, [], IsTrue};
 ghost use Rattle.std.specs.List.{list_all};
 ghost use Rattle.fw_ipset.specs.Entries.{fits};
-ghost use Rattle.fw_model.specs.declared.binding.Binding.TheVariants as binding;
+ghost use Rattle.fw_model.specs.declared.ipset.SetKind.TheVariants as kind;
+ghost use Rattle.fw_addr.specs.declared.packet.Family.TheVariants.{V4};
+ghost use Rattle.fw_valid.specs.Each.{Each};
 ghost use Rattle.fw_valid.specs.Names.{ipset_names};
 ghost use Rattle.fw_valid.specs.Rules.{NamesSet};
 ghost use Rattle.fw_valid.specs.Valid.{AreSets};
 ghost use Rattle.fw_zone.specs.Lists.{IsIn};
 
 use super::each::{Question, each, each_rules};
-use super::names::has_name;
+use super::names::is_ipset;
 use fw_addr::Family;
 use fw_ipset::fits;
 use fw_model::{Binding, Config, IpSet, Item, Rich, Rules, SetKind, Side, Zone};
@@ -24,7 +26,7 @@ impl Question<Binding> for BindingKnown {
 
     fn is_so(config: &Config, item: &Binding) -> bool {
         match item {
-            Binding::Set(name) => has_name(config.ipsets.as_slice(), name.as_str()),
+            Binding::Set(name) => is_ipset(config, name.as_str()),
             _ => true,
         }
     }
@@ -84,19 +86,36 @@ fn all_fit(set: &IpSet, items: &[Item]) -> bool
     items.iter().all(|item| fits(set, item))
 }
 
+/// A set of hardware addresses has the family inet.
+fn has_its_family(set: &IpSet) -> bool
+    ensures { IsTrue result ↔ (set.now.kind ≡ kind.Mac → set.now.family ≡ V4) }
+{
+    set.kind != SetKind::Mac || set.family == Family::V4
+}
+
+fn items_fit(set: &IpSet) -> bool
+    ensures { IsTrue result ↔ Each (λ item. IsTrue (fits set.now item)) set.now.items }
+{
+    all_fit(set, set.items.as_slice())
+}
+
+/// A set whose entries come with a timeout has none.
+fn has_its_timeout(set: &IpSet) -> bool
+    ensures { IsTrue result ↔ (IsTrue set.now.timeout → set.now.items ≡ []) }
+{
+    !set.timeout || set.items.as_slice().is_empty()
+}
+
 /// A set is as it must be.
 struct SetWhole;
 
 impl Question<IpSet> for SetWhole {
-    ghost use Rattle.std.specs.Prelude.{Unit};
     ghost use Rattle.fw_valid.specs.Sets.{IsSet};
 
     ghost asked = { λ config. IsSet };
 
     fn is_so(_config: &Config, item: &IpSet) -> bool {
-        let is_inet = item.kind != SetKind::Mac || item.family == Family::V4;
-        let is_empty = !item.timeout || item.items.as_slice().is_empty();
-        is_inet && all_fit(item, item.items.as_slice()) && is_empty
+        has_its_family(item) && items_fit(item) && has_its_timeout(item)
     }
 }
 
