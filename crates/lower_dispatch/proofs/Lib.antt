@@ -1,0 +1,5 @@
+pub mod Dispatched
+pub mod Every
+pub mod Found
+pub mod Led
+pub mod Orders
