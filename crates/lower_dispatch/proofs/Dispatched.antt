@@ -14,7 +14,7 @@ use Rattle.fw_model.specs.declared.packet.Origin.TheVariants as origin
 use Rattle.fw_model.specs.declared.packet.Packet.{Packet}
 use Rattle.fw_model.specs.declared.zone.Zone.{Zone}
 use Rattle.lower_dispatch.proofs.Found.{first_in_order}
-use Rattle.lower_dispatch.proofs.Led.{holds, leads, led, led_joined}
+use Rattle.lower_dispatch.proofs.Led.{leads, led, led_joined}
 use Rattle.lower_dispatch.proofs.Orders.{entry_total, zone_total}
 use Rattle.lower_dispatch.specs.Dispatch.{Dispatches, LeadTo, zone_on}
 use Rattle.lower_dispatch.specs.Forms.{by_name, entries_in_order, entry_rule, goto_zone, interface_rules, last_rules, link_test, peer_test, rule_where, source_rules, zone_dispatch, zone_entries, zone_rules}

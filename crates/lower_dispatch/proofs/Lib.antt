@@ -3,3 +3,4 @@ pub mod Every
 pub mod Found
 pub mod Led
 pub mod Orders
+pub mod Used
