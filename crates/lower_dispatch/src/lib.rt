@@ -2,15 +2,15 @@
 //! (firewalld.zones(5)).
 #![tactic(auto)]
 
+mod bindings;
 mod direction;
-mod dispatch;
 mod interfaces;
 mod laws;
 mod rules;
 mod sources;
 mod uses;
 
+pub use bindings::dispatch;
 pub use direction::Direction;
-pub use dispatch::dispatch;
 pub use laws::packets_use_zones;
 pub use uses::is_in_use;

@@ -4,7 +4,7 @@ use Rattle.lower_dispatch.proofs.Dispatched.{dispatches}
 use Rattle.lower_dispatch.proofs.Used.{lead_to_zones}
 use Rattle.lower_dispatch.specs.Dispatch.{Dispatches}
 use Rattle.lower_dispatch.specs.Uses.{LeadToZones}
-use Rattle.lower_dispatch.proofs.dispatch.dispatch.Goals as goal
+use Rattle.lower_dispatch.proofs.bindings.dispatch.Goals as goal
 
 pub returns-clause-leads : goal.returns-clause-leads
 returns-clause-leads c =
