@@ -2,9 +2,7 @@
 use anyhow::Result;
 use fw_addr::{Family, read_iface, read_mac, read_net};
 use fw_base::{Memory, Seq, Text};
-use fw_model::{
-    Binding, Config, IpSet, LogDenied, Notes, Rules, SetKind, Zone, ZoneTarget,
-};
+use fw_model::{Binding, Config, IpSet, LogDenied, Notes, Rules, SetKind, Zone, ZoneTarget};
 use std::alloc::Global;
 
 /// Zones with bindings of every kind, and the sets that they name but for one.
@@ -24,7 +22,12 @@ fn zones(alloc: Global) -> Result<Seq<Zone>> {
     zones.push(zone(alloc, "work", &["eth0+"], Seq::new(alloc))?)?;
     zones.push(zone(alloc, "home", &["eth+", "wlan0"], home_sources(alloc)?)?)?;
     zones.push(zone(alloc, "public", &[], Seq::new(alloc))?)?;
-    zones.push(zone(alloc, "dmz", &["eth0"], named(alloc, &["guests", "nosuch"])?)?)?;
+    zones.push(zone(
+        alloc,
+        "dmz",
+        &["eth0"],
+        named(alloc, &["guests", "nosuch"])?,
+    )?)?;
     zones.push(zone(alloc, "block", &[], Seq::new(alloc))?)?;
     zones.push(zone(alloc, "drop", &[], named(alloc, &["blocked", "cards"])?)?)?;
     Ok(zones)

@@ -1,4 +1,4 @@
-use Rattle.std.proofs.Common.{rules, ◌≡◌, ◌∙◌, ap, map, Bor}
+use Rattle.std.proofs.Common.{rules, ◌∙◌, ap, map, Bor}
 use Rattle.std.proofs.lemmas.List.Sorted.{answers_always, ranks_by}
 use Rattle.fw_model.specs.declared.zone.Zone.{Zone}
 use Rattle.fw_order.proofs.Ordered.{map_in_order, sorted_is_in_order}
