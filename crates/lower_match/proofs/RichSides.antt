@@ -1,9 +1,9 @@
 -- What a rule's family, source and destination ask is what the manual asks of a packet.
-use Rattle.std.proofs.Common.{◌≡◌, ◌∙◌, ◌==◌, ℕ, Bool, true, false, not, ◌&&◌, ◌||◌, List, [], ◌∷◌, ◌++◌, Option, None, Some, refl, sym, ap, subst, inl, inr, arith, if◌then◌else◌}
+use Rattle.std.proofs.Common.{◌≡◌, ◌∙◌, ◌==◌, ℕ, Bool, true, false, not, ◌&&◌, ◌||◌, List, [], ◌∷◌, Option, None, Some, refl, sym, ap, subst, inl, inr, arith, if◌then◌else◌}
 use Rattle.std.proofs.lemmas.Grind.{common_steps}
 use Rattle.std.proofs.lemmas.List.Folds.{list_all-append}
 use Rattle.std.proofs.lemmas.Slice.Eq.{bytes_eq-Decides}
-use Rattle.std.specs.List.{find, list_all, list_any}
+use Rattle.std.specs.List.{list_all, list_any}
 use Rattle.std.specs.Str.{bytes_eq}
 use Rattle.fw_addr.specs.declared.addr.Addr.{Addr}
 use Rattle.fw_addr.specs.declared.addr.Addr.TheVariants as addr
@@ -33,7 +33,6 @@ use Rattle.nf_eval.specs.Tests.{is_from, is_from_set, is_same_family}
 use Rattle.nf_rules.specs.declared.rule.Match.{Match}
 use Rattle.nf_rules.specs.declared.set.NfSet.{NfSet}
 use Rattle.nf_rules.specs.declared.test.Test.{Test}
-use Rattle.nf_rules.specs.declared.test.Test.TheVariants as test
 
 -- matches that must all hold, or what never does
 abbrev pub all_hold : Option (List ℕ) → List NfSet → Packet → Option (List Match) → Bool

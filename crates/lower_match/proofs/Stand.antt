@@ -18,7 +18,6 @@ use Rattle.fw_model.specs.declared.port.Port.{Port}
 use Rattle.fw_model.specs.declared.rich.Rich.{Rich}
 use Rattle.fw_model.specs.declared.rich.Side.{Side}
 use Rattle.fw_model.specs.declared.service.Service.{Service}
-use Rattle.fw_zone.specs.Lists.{IsIn}
 use Rattle.lower_match.proofs.RichSides.{receiver_holds, source_holds}
 use Rattle.lower_match.specs.Forms.{alternatives_at, at_end, at_ends, each_at, ends, icmp_alternatives, member_alternatives, place_alternatives, port_test, source_port_test, typed}
 use Rattle.lower_match.specs.Laws.{AreSourcesTold}

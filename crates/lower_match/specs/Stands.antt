@@ -1,5 +1,5 @@
 -- Which sets matches look up: those of ipsets alone, so that the matches stand wherever each ipset has its set.
-use Rattle.std.specs.Prelude.{◌≡◌, List, Bool, true, Option, None, Some, IsTrue, is_some}
+use Rattle.std.specs.Prelude.{List, Bool, true, Option, None, Some, IsTrue, is_some}
 use Rattle.std.specs.List.{list_all}
 use Rattle.fw_model.specs.declared.ipset.IpSet.{IpSet}
 use Rattle.fw_zone.specs.Lists.{IsIn}
