@@ -1,0 +1,11 @@
+//! A law of the hooks.
+ghost use Rattle.lower_hooks.specs.Laws.{HooksLeadTheWay};
+
+use lower_dispatch::packets_use_zones;
+
+/// In a ruleset in which the chains of the hooks work, what nft(8) makes of a packet is its way through the firewall.
+pub fn hooks_lead_the_way()
+    ensures { HooksLeadTheWay }
+{
+    packets_use_zones();
+}
