@@ -1,5 +1,5 @@
 -- The settings with which the daemon starts are valid.
-use Rattle.std.proofs.Common.{◌≤◌, length, arith}
+use Rattle.std.proofs.Common.{length, arith}
 use Rattle.fw_model.specs.declared.config.Config.{Config}
 use Rattle.fw_settings.proofs.Counted.{first_are_numbers}
 use Rattle.fw_settings.specs.Starting.{started}

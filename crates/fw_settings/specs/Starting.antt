@@ -1,6 +1,6 @@
 -- The settings with which the daemon starts: the runtime configuration is the permanent one (firewalld(1), "Runtime configuration").
 -- The numbers of zones and policies are this project's own.
-use Rattle.std.specs.Prelude.{ℕ, false, List, [], length}
+use Rattle.std.specs.Prelude.{false, [], length}
 use Rattle.std.specs.List.{range_with_len}
 use Rattle.fw_model.specs.declared.config.Config.{Config}
 use Rattle.fw_settings.specs.declared.settings.Settings.{Settings}
