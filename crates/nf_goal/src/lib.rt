@@ -2,5 +2,7 @@
 #![tactic(auto)]
 
 mod compiler;
+mod laws;
 
 pub use compiler::Compiler;
+pub use laws::outcomes_are_the_way;
