@@ -6,3 +6,4 @@ pub mod Lists
 pub mod Kept
 pub mod Passing
 pub mod Filter
+pub mod Named

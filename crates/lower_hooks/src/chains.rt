@@ -1,11 +1,11 @@
 //! The chains of the three hooks, and of the zones behind them.
-ghost use Rattle.std.specs.Prelude.{◌≡◌, ◌++◌, ◌∷◌, [], IfOk, OnOk};
+ghost use Rattle.std.specs.Prelude.{◌≡◌, ◌++◌, ◌∷◌, [], codes, IfOk, OnOk};
 ghost use Rattle.fw_order.specs.Borrowed.{lent};
 ghost use Rattle.fw_model.specs.declared.zone.Zone.{Zone};
 ghost use Rattle.fw_zone.specs.Lists.{IsIn};
 ghost use Rattle.lower_dispatch.specs.Dispatch.{Dispatches};
 ghost use Rattle.lower_hooks.specs.Chains.{ForwardWorks, Grows, HasChain, HasPairs, InputWorks, OutputWorks, base_chain};
-ghost use Rattle.lower_hooks.specs.Names.{input_start, output_start, pair_start};
+ghost use Rattle.lower_hooks.specs.Names.{forward_names, from_names, input_start, names_of, output_start, pair_start, zone_names};
 ghost use Rattle.lower_hooks.specs.Rules.{early_rules, known_rules, lo_out};
 ghost use Rattle.lower_hooks.specs.Zones.{ForwardStands, InputStands, OutputStands, host_to_zone, zone_to_host, zone_to_zone};
 ghost use Rattle.lower_zone.specs.Forms.{chain_named};
@@ -90,6 +90,7 @@ fn push_input(
 ) -> Result<(), Memory>
     ensures grows { OnOk result (Grows chains.old chains.new) }
     ensures there { OnOk result (HasChain config.now (InputStands config.now zone.now) (zone_to_host config.now zone.now) (input_start ++ zone.now.name) chains.new) }
+    ensures names { OnOk result (names_of chains.new ≡ names_of chains.old ++ (input_start ++ zone.now.name) ∷ []) }
 {
     let rules = input_rules(alloc, config, zone)?;
     let name = joined(alloc, "filter_INPUT_", &zone.name)?;
@@ -105,6 +106,7 @@ fn push_inputs(
     ensures grows { OnOk result (Grows chains.old chains.new) }
     ensures there { OnOk result ((zone : Zone) → IsIn zone (lent zones.now)
         → HasChain config.now (InputStands config.now zone) (zone_to_host config.now zone) (input_start ++ zone.name) chains.new) }
+    ensures names { OnOk result (names_of chains.new ≡ names_of chains.old ++ zone_names input_start (lent zones.now)) }
 {
     for zone in zones {
         push_input(alloc, config, zone, chains)?;
@@ -118,6 +120,7 @@ fn push_inputs(
 /// Refuses for want of memory alone.
 pub fn input_chains(alloc: Global, config: &Config, zones: &[&Zone]) -> Result<Seq<Chain>, Memory>
     ensures works { IfOk result (λ chains. InputWorks config.now (lent zones.now) chains) }
+    ensures names { IfOk result (λ chains. names_of chains ≡ codes "filter_INPUT" ∷ zone_names input_start (lent zones.now)) }
 {
     let dispatched = dispatch(alloc, config, Direction::Ingress, "filter_INPUT_")?;
     let rules = input_base(alloc, dispatched)?;
@@ -138,6 +141,7 @@ fn push_output(
 ) -> Result<(), Memory>
     ensures grows { OnOk result (Grows chains.old chains.new) }
     ensures there { OnOk result (HasChain config.now (OutputStands config.now zone.now) (host_to_zone config.now zone.now) (output_start ++ zone.now.name) chains.new) }
+    ensures names { OnOk result (names_of chains.new ≡ names_of chains.old ++ (output_start ++ zone.now.name) ∷ []) }
 {
     let rules = output_rules(alloc, config, zone)?;
     let name = joined(alloc, "filter_OUTPUT_", &zone.name)?;
@@ -153,6 +157,7 @@ fn push_outputs(
     ensures grows { OnOk result (Grows chains.old chains.new) }
     ensures there { OnOk result ((zone : Zone) → IsIn zone (lent zones.now)
         → HasChain config.now (OutputStands config.now zone) (host_to_zone config.now zone) (output_start ++ zone.name) chains.new) }
+    ensures names { OnOk result (names_of chains.new ≡ names_of chains.old ++ zone_names output_start (lent zones.now)) }
 {
     for zone in zones {
         push_output(alloc, config, zone, chains)?;
@@ -165,6 +170,7 @@ fn push_outputs(
 /// Refuses for want of memory alone.
 pub fn output_chains(alloc: Global, config: &Config, zones: &[&Zone]) -> Result<Seq<Chain>, Memory>
     ensures works { IfOk result (λ chains. OutputWorks config.now (lent zones.now) chains) }
+    ensures names { IfOk result (λ chains. names_of chains ≡ codes "filter_OUTPUT" ∷ zone_names output_start (lent zones.now)) }
 {
     let dispatched = dispatch(alloc, config, Direction::Egress, "filter_OUTPUT_")?;
     let rules = output_base(alloc, dispatched)?;
@@ -186,6 +192,7 @@ fn push_pair(
 ) -> Result<(), Memory>
     ensures grows { OnOk result (Grows chains.old chains.new) }
     ensures there { OnOk result (HasChain config.now (ForwardStands config.now from.now to.now) (zone_to_zone config.now from.now to.now) (pair_start from.now.name ++ to.now.name) chains.new) }
+    ensures names { OnOk result (names_of chains.new ≡ names_of chains.old ++ (pair_start from.now.name ++ to.now.name) ∷ []) }
 {
     let rules = forward_rules(alloc, config, from, to)?;
     let start = pair_start(alloc, &from.name)?;
@@ -203,6 +210,7 @@ fn push_pairs(
     ensures grows { OnOk result (Grows chains.old chains.new) }
     ensures there { OnOk result ((zone : Zone) → IsIn zone (lent zones.now)
         → HasChain config.now (ForwardStands config.now from.now zone) (zone_to_zone config.now from.now zone) (pair_start from.now.name ++ zone.name) chains.new) }
+    ensures names { OnOk result (names_of chains.new ≡ names_of chains.old ++ zone_names (pair_start from.now.name) (lent zones.now)) }
 {
     for zone in zones {
         push_pair(alloc, config, from, zone, chains)?;
@@ -220,6 +228,7 @@ fn push_forward(
 ) -> Result<(), Memory>
     ensures grows { OnOk result (Grows chains.old chains.new) }
     ensures there { OnOk result (HasPairs config.now (lent zones.now) from.now chains.new) }
+    ensures names { OnOk result (names_of chains.new ≡ names_of chains.old ++ from_names (lent zones.now) from.now) }
 {
     let start = pair_start(alloc, &from.name)?;
     let rules = dispatch(alloc, config, Direction::Egress, start.as_str())?;
@@ -238,6 +247,7 @@ fn push_forwards(
 ) -> Result<(), Memory>
     ensures grows { OnOk result (Grows chains.old chains.new) }
     ensures there { OnOk result ((zone : Zone) → IsIn zone (lent zones.now) → HasPairs config.now (lent others.now) zone chains.new) }
+    ensures names { OnOk result (names_of chains.new ≡ names_of chains.old ++ forward_names (lent others.now) (lent zones.now)) }
 {
     for zone in zones {
         push_forward(alloc, config, zone, others, chains)?;
@@ -251,6 +261,7 @@ fn push_forwards(
 /// Refuses for want of memory alone.
 pub fn forward_chains(alloc: Global, config: &Config, zones: &[&Zone]) -> Result<Seq<Chain>, Memory>
     ensures works { IfOk result (λ chains. ForwardWorks config.now (lent zones.now) chains) }
+    ensures names { IfOk result (λ chains. names_of chains ≡ codes "filter_FORWARD" ∷ forward_names (lent zones.now) (lent zones.now)) }
 {
     let dispatched = dispatch(alloc, config, Direction::Ingress, "filter_FORWARD_")?;
     let rules = input_base(alloc, dispatched)?;
