@@ -174,6 +174,6 @@ default_does config table leaving now meeting =
     subst (λ (walked : Walked). Do table leaving default_rules now walked) (or_rejected (is_icmp now.packet))
     (then_does table leaving (where_is (test.Proto icmp_protocol) verdict.Accept ++ where_is (test.Proto icmpv6_protocol) verdict.Accept) (always (verdict.Reject IcmpxAdminProhibited)) now
     (hit (is_icmp now.packet)) (silently (Some (verdict.Reject IcmpxAdminProhibited)))
-    (subst (λ (icmp : Bool). Do table leaving (each (statement verdict.Accept ∷ []) icmp_alternatives) now (hit icmp)) (sym (tells_icmp config table leaving now meeting))
+    (subst (λ (icmp : Bool). Do table leaving (each (statement verdict.Accept ∷ []) icmp_alternatives) now (hit icmp)) (sym ((tells_icmp config).holds table leaving now meeting))
     (each_decides table leaving verdict.Accept icmp_alternatives now))
     (λ count. always_does table leaving (verdict.Reject IcmpxAdminProhibited) (behind_lines (hit (is_icmp now.packet)).logs count now) refl))

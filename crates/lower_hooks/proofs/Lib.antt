@@ -6,4 +6,5 @@ pub mod Lists
 pub mod Kept
 pub mod Passing
 pub mod Filter
+pub mod Bases
 pub mod Named

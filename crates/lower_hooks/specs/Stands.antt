@@ -1,5 +1,5 @@
 -- A ruleset in which the chains of the hooks stand, one base chain at each of the three.
-use Rattle.std.specs.Prelude.{◌≡◌, ℕ, List, codes, None, Some, IsSome}
+use Rattle.std.specs.Prelude.{◌≡◌, ◌⊎◌, ℕ, List, codes, None, Some, IsSome}
 use Rattle.fw_hits.specs.Bindings.{default_zone}
 use Rattle.fw_model.specs.declared.config.Config.{Config}
 use Rattle.fw_model.specs.declared.zone.Zone.{Zone}
@@ -32,6 +32,15 @@ pub record HasBases (rules : Ruleset) (input forward output : List Rule) : Type 
   pub at_forward : OneAt rules (codes "filter_FORWARD") hook.Forward forward
   pub at_output : OneAt rules (codes "filter_OUTPUT") hook.Output output
   pub at_postrouting : NoneAt rules hook.Postrouting
+
+-- Of these chains three are base chains, and no other is.
+abbrev pub AreBases : List Chain → (input forward output : List Rule) → Type 0
+AreBases chains input forward output =
+    (chain : Chain) → IsIn chain chains
+    → (chain.base ≡ None)
+    ⊎ ((chain ≡ base_chain (codes "filter_INPUT") hook.Input input)
+    ⊎ ((chain ≡ base_chain (codes "filter_FORWARD") hook.Forward forward)
+    ⊎ (chain ≡ base_chain (codes "filter_OUTPUT") hook.Output output)))
 
 -- All that the way of a packet through the filter leads through.
 pub record Works (config : Config) (rules : Ruleset) : Type 0 where

@@ -1,5 +1,5 @@
-//! A law of the hooks.
-ghost use Rattle.lower_hooks.specs.Laws.{HooksLeadTheWay};
+//! Laws of the hooks.
+ghost use Rattle.lower_hooks.specs.Laws.{HooksLeadTheWay, OneRunsAtEach};
 
 use lower_dispatch::packets_use_zones;
 
@@ -9,3 +9,8 @@ pub fn hooks_lead_the_way()
 {
     packets_use_zones();
 }
+
+/// Where three chains are the base chains of a ruleset, each runs at its hook, alone.
+pub fn one_runs_at_each_hook()
+    ensures { OneRunsAtEach }
+{}

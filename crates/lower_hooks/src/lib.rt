@@ -14,5 +14,5 @@ mod rules;
 
 pub use chains::{forward_chains, input_chains, output_chains};
 pub use input::has_walk;
-pub use laws::hooks_lead_the_way;
+pub use laws::{hooks_lead_the_way, one_runs_at_each_hook};
 pub use policies::has_settings;
