@@ -1,0 +1,69 @@
+-- The settings in force become the permanent ones (firewalld.dbus(5), `runtimeToPermanent`). That settings which end by themselves are
+-- left out, and which numbers zones and policies have afterwards, is this project's own.
+use Rattle.std.specs.Prelude.{ℕ, ◌+◌, ◌-◌, ◌^◌, min, List, [], ◌∷◌, ◌++◌, fold, map, Option, None, Some, position, slice_get}
+use Rattle.std.specs.Str.{bytes_eq}
+use Rattle.fw_act.specs.Acts.{Answered, replied}
+use Rattle.fw_calls.specs.declared.reply.Reply.TheVariants as reply
+use Rattle.fw_model.specs.declared.config.Config.{Config}
+use Rattle.fw_model.specs.declared.policy.Policy.{Policy}
+use Rattle.fw_model.specs.declared.setting.Timed.{Timed}
+use Rattle.fw_model.specs.declared.zone.Zone.{Zone}
+use Rattle.fw_settings.specs.declared.settings.Settings.{Settings}
+use Rattle.fw_text.specs.Steps.{◌>>=◌}
+use Rattle.fw_zone_edits.specs.Endings.{all_ended}
+
+-- the numbers of objects by their places, and the next number
+pub record Numbers : Type 0 where
+  pub numbers : List ℕ
+  pub next : ℕ
+
+-- the next number but one; the last number stays
+abbrev pub behind : (number : ℕ) → ℕ
+behind number = min (number + 1) (2 ^ 64 - 1)
+
+-- the number of the object of a name, of names and their numbers
+abbrev pub number_of : (names : List (List ℕ)) → (numbers : List ℕ) → (name : List ℕ) → Option ℕ
+number_of names numbers name = do
+  place ← position (λ other. bytes_eq other name) names
+  slice_get numbers place
+
+-- an object more: it keeps its number, or gets the next
+abbrev pub with_number : Numbers → Option ℕ → Numbers
+with_number so_far (Some number) = record so_far { numbers = so_far.numbers ++ number ∷ [] }
+with_number so_far None = record { numbers = so_far.numbers ++ so_far.next ∷ []; next = behind so_far.next }
+
+-- the numbers of new names, by those of old ones
+abbrev pub numbered : (names : List (List ℕ)) → (numbers : List ℕ) → (next : ℕ) → (new : List (List ℕ)) → Numbers
+numbered names numbers next new =
+    fold (λ so_far name. with_number so_far (number_of names numbers name)) (record { numbers = []; next = next }) new
+
+abbrev pub zone_names : Config → List (List ℕ)
+zone_names config = map (λ (zone : Zone). zone.name) config.zones
+
+abbrev pub policy_names : Config → List (List ℕ)
+policy_names config = map (λ (policy : Policy). policy.name) config.policies
+
+-- a configuration in which all that ends by itself ended
+abbrev pub lasting : Config → List Timed → Config
+lasting config timers = record config { zones = all_ended config.zones timers }
+
+-- the numbers of the zones and of the policies in force, as they will be the permanent ones
+abbrev pub zone_numbers : Settings → Numbers
+zone_numbers settings = numbered (zone_names settings.permanent) settings.zone_ids settings.next_zone (zone_names settings.runtime.config)
+
+abbrev pub policy_numbers : Settings → Numbers
+policy_numbers settings =
+    numbered (policy_names settings.permanent) settings.policy_ids settings.next_policy (policy_names settings.runtime.config)
+
+unfoldable pub to_permanent : Settings → Settings
+to_permanent settings = record settings {
+  permanent = lasting settings.runtime.config settings.timers;
+  zone_ids = (zone_numbers settings).numbers;
+  next_zone = (zone_numbers settings).next;
+  policy_ids = (policy_numbers settings).numbers;
+  next_policy = (policy_numbers settings).next;
+}
+
+-- `runtimeToPermanent()`
+abbrev pub to_permanent_member : Settings → Answered Settings
+to_permanent_member settings = replied (to_permanent settings) reply.None

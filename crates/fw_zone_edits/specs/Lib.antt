@@ -1,0 +1,6 @@
+pub mod Endings
+pub mod Entries
+pub mod Settings
+pub mod Signals
+pub mod Texts
+pub mod Zones
