@@ -1,6 +1,6 @@
 -- Members on the entries of one ipset (firewalld.dbus(5), `addEntry`, `removeEntry`, `queryEntry` and `setEntries`; the signals of
 -- `setEntries` are this project's own).
-use Rattle.std.specs.Prelude.{ℕ, if◌then◌else◌, List, [], ◌∷◌, ◌++◌, map, Result, Ok, Err}
+use Rattle.std.specs.Prelude.{ℕ, if◌then◌else◌, List, [], ◌∷◌, ◌++◌, map, Result, Ok}
 use Rattle.fw_act.specs.Acts.{Answered, ◌>>=◌, changed, refused, refused_as, replied, result_and_then}
 use Rattle.fw_calls.specs.declared.member.Verb.{Verb}
 use Rattle.fw_calls.specs.declared.member.Verb.TheVariants as verb

@@ -4,7 +4,7 @@ use Rattle.fw_addr.specs.Hardware.{mac_text}
 use Rattle.fw_addr.specs.Nets.{net_text}
 use Rattle.fw_answer.specs.Equal.{same_item}
 use Rattle.fw_answer.specs.Lists.{is_in, without}
-use Rattle.fw_act.specs.Acts.{◌>>=◌, refused, result_and_then}
+use Rattle.fw_act.specs.Acts.{◌>>=◌, refused}
 use Rattle.fw_calls.specs.declared.reply.Refusal.{Refusal}
 use Rattle.fw_ipset.specs.Entries.{entry, with_items}
 use Rattle.fw_model.specs.declared.code.Code.{Code}

@@ -1,7 +1,7 @@
 -- Members on ipsets (firewalld.dbus(5), interface `org.fedoraproject.FirewallD1.ipset`; the refusals of `getEntries` are this project's
 -- own).
-use Rattle.std.specs.Prelude.{ℕ, List, map, Result, Ok, Err, slice_set}
-use Rattle.fw_act.specs.Acts.{Answered, ◌>>=◌, found_or, replied, result_and_then}
+use Rattle.std.specs.Prelude.{ℕ, List, map, Result, Ok, slice_set}
+use Rattle.fw_act.specs.Acts.{Answered, ◌>>=◌, found_or, replied}
 use Rattle.fw_calls.specs.declared.call.IpsetCall.{IpsetCall}
 use Rattle.fw_calls.specs.declared.call.IpsetCall.TheVariants as call
 use Rattle.fw_calls.specs.declared.reply.Refusal.{Refusal}

@@ -1,5 +1,5 @@
 -- The ipset that a call names (firewalld.dbus(5), interface `org.fedoraproject.FirewallD1.ipset`).
-use Rattle.std.specs.Prelude.{ℕ, Bool, List, Option, None, Some, position, slice_get}
+use Rattle.std.specs.Prelude.{ℕ, Bool, List, Option, Some, position, slice_get}
 use Rattle.std.specs.List.{list_any}
 use Rattle.std.specs.Str.{bytes_eq}
 use Rattle.fw_model.specs.declared.ipset.IpSet.{IpSet}

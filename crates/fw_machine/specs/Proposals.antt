@@ -1,6 +1,6 @@
 -- What an event is to do, as a proposal says it (this project's own): nothing where nothing would change, a save exactly where the
 -- permanent settings would change, and a commit exactly where the settings in force would.
-use Rattle.std.specs.Prelude.{◌≡◌, ◌≢◌, ◌↔◌, [], IsNone, IsTrue, Result, Ok, Err}
+use Rattle.std.specs.Prelude.{◌≡◌, ◌≢◌, ◌↔◌, IsNone, IsTrue, Result, Ok, Err}
 use Rattle.fw_act.specs.Acts.{Answered, replied}
 use Rattle.fw_calls.specs.declared.reply.Refusal.{Refusal}
 use Rattle.fw_calls.specs.declared.reply.Reply.TheVariants as reply

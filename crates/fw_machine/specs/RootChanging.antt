@@ -1,9 +1,9 @@
 -- Members on the firewall as a whole (firewalld.dbus(5), interface `org.fedoraproject.FirewallD1`), but for those that make one
 -- configuration of another.
-use Rattle.std.specs.Prelude.{ℕ, Bool, true, false, not, codes, List, [], ◌∷◌, map, Result, Ok, Err}
+use Rattle.std.specs.Prelude.{ℕ, Bool, true, false, not, codes, List, [], ◌∷◌, map, Result, Ok}
 use Rattle.std.specs.List.{list_any}
 use Rattle.std.specs.Str.{bytes_eq}
-use Rattle.fw_act.specs.Acts.{Answered, ◌>>=◌, changed, found_or, replied, required, result_and_then}
+use Rattle.fw_act.specs.Acts.{Answered, ◌>>=◌, changed, found_or, replied, required}
 use Rattle.fw_calls.specs.declared.reply.Refusal.{Refusal}
 use Rattle.fw_calls.specs.declared.reply.Reply.TheVariants as reply
 use Rattle.fw_calls.specs.declared.signal.Arg.TheVariants as arg

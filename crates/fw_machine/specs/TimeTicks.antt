@@ -27,8 +27,8 @@ at_time settings now = record {
   signals = map ended_signal (due settings.timers now);
   reply = reply.Event applied.Skipped;
   after = record
-    (with_timers (with_zones settings (all_ended settings.runtime.config.zones (due settings.timers now))) (not_due settings.timers now))
-    { now = now };
+      (with_timers (with_zones settings (all_ended settings.runtime.config.zones (due settings.timers now))) (not_due settings.timers now))
+      { now = now };
 }
 
 unfoldable pub ticked : Settings → (told : ℕ) → Answered Settings

@@ -1,7 +1,7 @@
 -- Members that ask for zones (firewalld.dbus(5), `getZones`, `getActiveZones`, `getZoneSettings2`).
-use Rattle.std.specs.Prelude.{ℕ, ◌==◌, Bool, not, ◌&&◌, List, length, map, Result, Ok, Err}
+use Rattle.std.specs.Prelude.{ℕ, ◌==◌, Bool, not, ◌&&◌, List, length, map, Result, Ok}
 use Rattle.std.specs.List.{filter}
-use Rattle.fw_act.specs.Acts.{Answered, ◌>>=◌, replied, result_and_then}
+use Rattle.fw_act.specs.Acts.{Answered, ◌>>=◌, replied}
 use Rattle.fw_calls.specs.declared.reply.Active.{Active}
 use Rattle.fw_calls.specs.declared.reply.Refusal.{Refusal}
 use Rattle.fw_calls.specs.declared.reply.Reply.TheVariants as reply

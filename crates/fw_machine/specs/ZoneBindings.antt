@@ -1,6 +1,6 @@
 -- Members that bind interfaces and sources to zones (firewalld.dbus(5), `addInterface`, `changeZoneOfSource` and their kin).
-use Rattle.std.specs.Prelude.{ℕ, List, Result, Ok, Err, find}
-use Rattle.fw_act.specs.Acts.{Answered, ◌>>=◌, changed, refused_as, replied, result_and_then}
+use Rattle.std.specs.Prelude.{ℕ, List, Result, Ok, find}
+use Rattle.fw_act.specs.Acts.{Answered, ◌>>=◌, changed, refused_as, replied}
 use Rattle.fw_calls.specs.declared.call.BindingWord.{BindingWord}
 use Rattle.fw_calls.specs.declared.member.BindingVerb.{BindingVerb}
 use Rattle.fw_calls.specs.declared.member.BindingVerb.TheVariants as verb

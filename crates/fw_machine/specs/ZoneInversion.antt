@@ -1,6 +1,6 @@
 -- Members on the inversion of a zone's ICMP blocks (firewalld.dbus(5), `addIcmpBlockInversion` and its kin).
-use Rattle.std.specs.Prelude.{ℕ, Bool, true, false, not, codes, List, [], ◌∷◌, Result, Ok, Err, slice_set}
-use Rattle.fw_act.specs.Acts.{Answered, ◌>>=◌, changed, replied, required, result_and_then}
+use Rattle.std.specs.Prelude.{ℕ, Bool, true, false, not, codes, List, [], ◌∷◌, Result, Ok, slice_set}
+use Rattle.fw_act.specs.Acts.{Answered, ◌>>=◌, changed, replied, required}
 use Rattle.fw_calls.specs.declared.member.Verb.{Verb}
 use Rattle.fw_calls.specs.declared.member.Verb.TheVariants as verb
 use Rattle.fw_calls.specs.declared.reply.Refusal.{Refusal}

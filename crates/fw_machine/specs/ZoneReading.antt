@@ -1,10 +1,10 @@
 -- Zones, settings, interfaces and sources as the arguments of calls name them (firewalld.dbus(5), interface
 -- `org.fedoraproject.FirewallD1.zone`). The order of the refusals is this project's own.
-use Rattle.std.specs.Prelude.{ℕ, ℤ, pos, int_lt, unsigned_abs, Bool, not, ◌||◌, if◌then◌else◌, codes, is_some, List, [], ◌∷◌, length, ◌==◌, Option, None, Some, Result, Ok, Err}
+use Rattle.std.specs.Prelude.{ℕ, ℤ, pos, int_lt, unsigned_abs, Bool, not, ◌||◌, if◌then◌else◌, codes, is_some, List, length, ◌==◌, Option, None, Some, Result, Ok}
 use Rattle.std.specs.List.{list_any}
 use Rattle.std.specs.Fmt.{signed_decimal}
 use Rattle.std.specs.Str.{bytes_eq}
-use Rattle.fw_act.specs.Acts.{◌>>=◌, found_or, refused, required, result_and_then}
+use Rattle.fw_act.specs.Acts.{◌>>=◌, found_or, refused, required}
 use Rattle.fw_addr.specs.Addresses.{address}
 use Rattle.fw_addr.specs.Hardware.{mac}
 use Rattle.fw_addr.specs.Icmp.{icmp}

@@ -2,7 +2,7 @@
 use Rattle.std.specs.Prelude.{ℕ, Bool, true, ◌&&◌, List, Option, None, Some, Result, Ok, Err}
 use Rattle.std.specs.List.{list_any}
 use Rattle.std.specs.Str.{bytes_eq}
-use Rattle.fw_act.specs.Acts.{◌>>=◌, refused, required, result_and_then}
+use Rattle.fw_act.specs.Acts.{◌>>=◌, refused, required}
 use Rattle.fw_calls.specs.declared.reply.Refusal.{Refusal}
 use Rattle.fw_model.specs.declared.binding.Binding.{Binding}
 use Rattle.fw_model.specs.declared.binding.Binding.TheVariants as source

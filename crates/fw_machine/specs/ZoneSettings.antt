@@ -1,6 +1,6 @@
 -- Members on settings of a zone (firewalld.dbus(5), `addPort`, `removePort`, `queryPort` and their kin).
-use Rattle.std.specs.Prelude.{ℕ, ℤ, ◌+◌, ◌==◌, if◌then◌else◌, List, [], ◌∷◌, ◌++◌, Result, Ok, Err}
-use Rattle.fw_act.specs.Acts.{Answered, ◌>>=◌, changed, refused_as, replied, result_and_then}
+use Rattle.std.specs.Prelude.{ℕ, ℤ, ◌+◌, ◌==◌, if◌then◌else◌, List, [], ◌∷◌, ◌++◌, Result, Ok}
+use Rattle.fw_act.specs.Acts.{Answered, ◌>>=◌, changed, refused_as, replied}
 use Rattle.fw_calls.specs.declared.call.SettingVerb.{SettingVerb}
 use Rattle.fw_calls.specs.declared.call.SettingVerb.TheVariants as verb
 use Rattle.fw_calls.specs.declared.call.SettingWords.{SettingWords}

@@ -1,6 +1,6 @@
 -- The zone that a call names (firewalld.dbus(5), interface `org.fedoraproject.FirewallD1.zone`): an empty name is the
 -- default zone's.
-use Rattle.std.specs.Prelude.{ℕ, List, [], ◌∷◌, Option, None, Some, position, slice_get}
+use Rattle.std.specs.Prelude.{ℕ, List, [], ◌∷◌, Option, Some, position, slice_get}
 use Rattle.std.specs.Str.{bytes_eq}
 use Rattle.fw_text.specs.Steps.{◌>>=◌}
 use Rattle.fw_model.specs.declared.config.Config.{Config}
