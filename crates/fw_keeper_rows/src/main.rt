@@ -2,7 +2,7 @@
 //! answer.
 #![tactic(auto)]
 
-ghost use Rattle.std.specs.Prelude.{◌≤◌, ◌≡◌, ◌+◌};
+ghost use Rattle.std.specs.Prelude.{◌≤◌, ◌≡◌, ◌+◌, OnOk};
 
 use anyhow::Result;
 use fw_base::Text;
@@ -86,7 +86,7 @@ fn push_load<K: Keeper>(alloc: Global, keeper: &mut K, told: &mut String) -> Res
 /// One save, and what it answers.
 fn push_save<K: Keeper>(alloc: Global, keeper: &mut K, text: &str, told: &mut String) -> Result<()>
     requires { (K.Keeper.kept keeper.old).calls ≤ 20 }
-    ensures { (K.Keeper.kept keeper.new).calls ≡ (K.Keeper.kept keeper.old).calls + 1 }
+    ensures { OnOk result ((K.Keeper.kept keeper.new).calls ≡ (K.Keeper.kept keeper.old).calls + 1) }
 {
     match keeper.save(text.as_bytes().to_vec(alloc)?) {
         Ok(()) => write!(told, "  save {text}: done\n")?,

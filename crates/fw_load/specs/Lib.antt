@@ -1,0 +1,5 @@
+pub mod Answers
+pub mod Endings
+pub mod Fields
+pub mod Objects
+pub mod Values
