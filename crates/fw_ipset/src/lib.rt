@@ -3,6 +3,7 @@
 
 mod edits;
 mod error;
+mod fit;
 mod left;
 mod once;
 mod read;
@@ -10,6 +11,7 @@ mod replace;
 
 pub use edits::{add_item, has_item, remove_item};
 pub use error::SetError;
+pub use fit::fits;
 pub use left::lacking;
 pub use once::keep_once;
 pub use read::read_item;

@@ -1,11 +1,11 @@
 //! Entries of sets as texts.
 ghost use Rattle.std.specs.Prelude.{◌≡◌, IsTrue, IfOk, if◌then◌else◌, Err};
 ghost use Rattle.std.specs.Option.{ok_or};
-ghost use Rattle.fw_addr.specs.Subnets.{family};
-ghost use Rattle.fw_ipset.specs.Entries.{entry, fits, is_same_family, is_whole, item_of, mac_item, may_hold, net_item};
+ghost use Rattle.fw_ipset.specs.Entries.{entry, item_of, mac_item, net_item};
 
 use super::SetError;
-use fw_addr::{Family, Net, read_mac, read_net};
+use super::fit::fits;
+use fw_addr::{read_mac, read_net};
 use fw_model::{IpSet, Item, SetKind};
 
 /// Reads an entry of a set (firewalld.ipset(5), `entry`): of a set of kind `hash:ip` an address of its family, which may
@@ -20,7 +20,7 @@ pub fn read_item(set: &IpSet, text: &str) -> Result<Item, SetError>
         return Err(SetError::IpsetWithTimeout);
     }
     match parse_item(set.kind, text) {
-        Some(item) if may_hold(set.kind, set.family, &item) => Ok(item),
+        Some(item) if fits(set, &item) => Ok(item),
         _ => Err(SetError::InvalidEntry),
     }
 }
@@ -52,30 +52,4 @@ fn mac_item(text: &str) -> Option<Item>
         Ok(address) => Some(Item::Mac(address)),
         Err(_) => None,
     }
-}
-
-/// Whether a set of a kind and a family may hold an item.
-fn may_hold(kind: SetKind, family: Family, item: &Item) -> bool
-    ensures { result ≡ may_hold kind family item.now }
-{
-    match (kind, item) {
-        (SetKind::Ip, Item::Net(net)) => is_of(net, family) && is_whole(net),
-        (SetKind::Net, Item::Net(net)) => is_of(net, family),
-        (SetKind::Mac, Item::Mac(_)) => true,
-        _ => false,
-    }
-}
-
-/// Whether a net is of a family.
-fn is_of(net: &Net, wanted: Family) -> bool
-    ensures { result ≡ is_same_family (family net.now.address) wanted }
-{
-    net.addr().family() == wanted
-}
-
-/// Whether a net is one address.
-fn is_whole(net: &Net) -> bool
-    ensures { result ≡ is_whole net.now }
-{
-    net.prefix() == net.addr().width()
 }

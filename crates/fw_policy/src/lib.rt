@@ -9,3 +9,4 @@ mod sides;
 pub use fault::Fault;
 pub use laws::a_policy_without_faults_is_valid;
 pub use rules::{first_fault, policy_fault};
+pub use sides::{ANY, HOST};

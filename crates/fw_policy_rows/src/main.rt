@@ -1,25 +1,19 @@
 //! Policies over the built-in configuration, one a line, and what becomes of packets under them. The files stdin and stdout
 //! beside src/ are one table, worked out by hand from the rules in docs/PROFILE.md.
 //!
-//! `policy NAME PRIORITY TARGET INGRESS EGRESS SETTING ..` adds a policy, `bind ZONE INTERFACE` binds an interface, `packet WORDS` tells
-//! what becomes of a packet, `faults` what is wrong with each policy, and `clear` begins anew.
+//! `packet WORDS` tells what becomes of a packet, `faults` what is wrong with each policy, and `clear` begins anew. All other lines are
+//! those of `fw_rows`.
 #![tactic(auto)]
 
-ghost use Rattle.std.specs.Prelude.{◌<◌, IfSome, length};
-
-mod policies;
-
 use anyhow::Result;
-use fw_addr::read_iface;
 use fw_line::push_outcome;
 use fw_model::{Config, Runtime};
 use fw_packet::read_packet;
 use fw_policy::{Fault, first_fault};
+use fw_rows::edit;
 use fw_service::built_in_config;
 use fw_verdict::verdict;
 use fw_words::{LineError, split_words};
-use fw_zone::bind_iface;
-use policies::read_policy;
 use std::alloc::Global;
 
 fn main(rt: HostRuntime) -> Result<()> {
@@ -47,44 +41,14 @@ fn done(alloc: Global, runtime: &mut Runtime, line: &str) -> Result<String, Line
     };
     match *kind {
         "clear" => runtime.config = built_in_config(alloc)?,
-        "bind" => bind(&mut runtime.config, rest)?,
-        "policy" => {
-            let policy = read_policy(alloc, rest)?;
-            runtime.config.policies.push(policy)?;
-        }
         "packet" => {
             let packet = read_packet(alloc, rest)?;
             push_outcome(&mut out, &verdict(alloc, runtime, &packet)?)?;
         }
         "faults" => push_faults(&mut out, &runtime.config)?,
-        _ => return Err(LineError::BadLine),
+        _ => edit(alloc, &mut runtime.config, words.as_slice())?,
     }
     Ok(out)
-}
-
-/// Binds an interface to a zone.
-fn bind(config: &mut Config, words: &[&str]) -> Result<(), LineError> {
-    let [zone, name] = words else {
-        return Err(LineError::BadLine);
-    };
-    let Ok(iface) = read_iface(name) else {
-        return Err(LineError::BadLine);
-    };
-    let Some(place) = place_of(config, zone) else {
-        return Err(LineError::BadLine);
-    };
-    bind_iface(&mut config.zones, place, iface).map_err(|_| LineError::BadLine)
-}
-
-/// The place of a zone.
-fn place_of(config: &Config, name: &str) -> Option<usize>
-    ensures { IfSome result (λ place. place < length config.now.zones) }
-{
-    config
-        .zones
-        .as_slice()
-        .iter()
-        .position(|zone| zone.name.as_str() == name)
 }
 
 /// A line for each policy: its name, and what is wrong with it.

@@ -8,5 +8,6 @@ mod rich;
 mod way;
 
 pub use items::REJECT;
+pub use policies::{End, Stage, decided_by_target, policies_at, stands_for};
 pub use rich::{Part, audit_name, blocks_icmp, reject_type, rules_in};
-pub use way::verdict;
+pub use way::{stays_within, target_forwarded, verdict};

@@ -33,8 +33,8 @@ fn names(name: &str, side: &[Text]) -> bool
     side.iter().any(|one| one.as_str() == name)
 }
 
-/// Whether a side of a policy stands for an end.
-fn stands_for(side: &[Text], end: End<'_>) -> bool
+/// Whether a side of a policy stands for an end (firewalld.policies(5)): for a zone by its name or as `ANY`, for the host as `HOST`.
+pub fn stands_for(side: &[Text], end: End<'_>) -> bool
     ensures { result ≡ stands_for side.now (end_of end.entry) }
 {
     match end {
@@ -87,7 +87,8 @@ fn acting<'a>(
     Ok(found)
 }
 
-fn decided_by_target(target: PolicyTarget) -> Option<Verdict>
+/// What a policy's target decides (firewalld.policy(5), `target`), if anything.
+pub fn decided_by_target(target: PolicyTarget) -> Option<Verdict>
     ensures { result ≡ decided_by_target target }
 {
     match target {
@@ -96,6 +97,22 @@ fn decided_by_target(target: PolicyTarget) -> Option<Verdict>
         PolicyTarget::Reject => Some(REJECT),
         PolicyTarget::Drop => Some(Verdict::Drop),
     }
+}
+
+/// The policies that act at a stage on packets from one end to another: by priority and then by name.
+///
+/// Refuses for want of memory alone.
+pub fn policies_at<'a>(
+    alloc: Global,
+    config: &'a Config,
+    stage: Stage,
+    from: End<'_>,
+    to: End<'_>,
+) -> Result<Vec<&'a Policy>, Memory>
+    ensures { IfOk result (λ ordered. lent ordered.items ≡ policies_at config.now stage (end_of from.entry) (end_of to.entry)) }
+{
+    let found = acting(alloc, config.policies.as_slice(), stage, from, to)?;
+    by_priority_and_name(found)
 }
 
 /// What a policy decides of a packet that it applies to, if anything: by its settings, and then by its target.
@@ -148,7 +165,6 @@ pub fn walk_policies(
 ) -> Result<Option<Verdict>, Memory>
     ensures { IfOk result (λ decided. Walks (policies config.now stage packet.now (end_of from.entry) (end_of to.entry)) logs.old logs.new decided) }
 {
-    let found = acting(alloc, config.policies.as_slice(), stage, from, to)?;
-    let ordered = by_priority_and_name(found)?;
+    let ordered = policies_at(alloc, config, stage, from, to)?;
     walk_all(alloc, config, ordered.as_slice(), packet, logs)
 }

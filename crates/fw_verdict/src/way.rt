@@ -211,7 +211,7 @@ fn to_host(
 }
 
 /// Whether a forwarded packet stays within a zone that lets packets go from it to itself.
-fn stays_within(from: Option<&Zone>, to: Option<&Zone>) -> bool
+pub fn stays_within(from: Option<&Zone>, to: Option<&Zone>) -> bool
     ensures { result ≡ stays_within (option_copied from.entry) (option_copied to.entry) }
 {
     let Some(from) = from else {
@@ -223,7 +223,8 @@ fn stays_within(from: Option<&Zone>, to: Option<&Zone>) -> bool
     }
 }
 
-fn target_forwarded(target: ZoneTarget) -> Verdict
+/// What a zone's target decides of a forwarded packet (firewalld.zone(5), `target`).
+pub fn target_forwarded(target: ZoneTarget) -> Verdict
     ensures { result ≡ target_forwarded target }
 {
     match target {

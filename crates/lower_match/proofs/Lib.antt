@@ -4,3 +4,4 @@ pub mod Reached
 pub mod Tests
 pub mod RichRules
 pub mod RichSides
+pub mod Stand

@@ -1,9 +1,9 @@
 -- What a rule's family, source and destination ask is what the manual asks of a packet.
-use Rattle.std.proofs.Common.{◌≡◌, ◌∙◌, ◌==◌, ℕ, Bool, true, false, not, ◌&&◌, ◌||◌, List, [], ◌∷◌, ◌++◌, Option, None, Some, refl, sym, ap, subst, inl, inr, arith, if◌then◌else◌}
+use Rattle.std.proofs.Common.{◌≡◌, ◌∙◌, ◌==◌, ℕ, Bool, true, false, not, ◌&&◌, ◌||◌, List, [], ◌∷◌, Option, None, Some, refl, sym, ap, subst, inl, inr, arith, if◌then◌else◌}
 use Rattle.std.proofs.lemmas.Grind.{common_steps}
 use Rattle.std.proofs.lemmas.List.Folds.{list_all-append}
 use Rattle.std.proofs.lemmas.Slice.Eq.{bytes_eq-Decides}
-use Rattle.std.specs.List.{find, list_all, list_any}
+use Rattle.std.specs.List.{list_all, list_any}
 use Rattle.std.specs.Str.{bytes_eq}
 use Rattle.fw_addr.specs.declared.addr.Addr.{Addr}
 use Rattle.fw_addr.specs.declared.addr.Addr.TheVariants as addr
@@ -23,6 +23,7 @@ use Rattle.fw_model.specs.declared.packet.Packet.{Packet}
 use Rattle.fw_model.specs.declared.rich.Rich.{Rich}
 use Rattle.fw_model.specs.declared.rich.Side.{Side}
 use Rattle.fw_zone.specs.Lists.{IsIn}
+use Rattle.lower_match.specs.Laws.{asked_holds}
 use Rattle.lower_match.specs.Lowers.{EachStands, StandsFor, set_name}
 use Rattle.lower_match.specs.RichForms.{both_ask, family_matches, receiver_kind, receiver_matches, receiver_set, receiver_test, set_named, sides_ask, source_kind, source_matches, source_set, source_test, turned_test}
 use Rattle.lower_match.proofs.Tests.{and_true, or_false}
@@ -32,16 +33,11 @@ use Rattle.nf_eval.specs.Tests.{is_from, is_from_set, is_same_family}
 use Rattle.nf_rules.specs.declared.rule.Match.{Match}
 use Rattle.nf_rules.specs.declared.set.NfSet.{NfSet}
 use Rattle.nf_rules.specs.declared.test.Test.{Test}
-use Rattle.nf_rules.specs.declared.test.Test.TheVariants as test
 
 -- matches that must all hold, or what never does
 abbrev pub all_hold : Option (List ℕ) → List NfSet → Packet → Option (List Match) → Bool
 all_hold leaving sets packet None = false
 all_hold leaving sets packet (Some matches) = list_all (match_at leaving sets packet) matches
-
-abbrev it_holds : Option (List ℕ) → List NfSet → Packet → Option Test → Bool
-it_holds leaving sets packet None = false
-it_holds leaving sets packet (Some asked) = test_at leaving sets packet asked
 
 and_false : (b : Bool) → (b && false) ≡ false
 and_false true = refl
@@ -54,7 +50,7 @@ both_hold leaving sets packet (Some one) None = sym (and_false (list_all (match_
 both_hold leaving sets packet (Some one) (Some other) = list_all-append (match_at leaving sets packet) one other
 
 turned_holds : (leaving : Option (List ℕ)) (sets : List NfSet) (packet : Packet) (inverted : Bool) (asked : Option Test)
-    → all_hold leaving sets packet (turned_test inverted asked) ≡ turned inverted (it_holds leaving sets packet asked)
+    → all_hold leaving sets packet (turned_test inverted asked) ≡ turned inverted (asked_holds leaving sets packet asked)
 turned_holds leaving sets packet true (Some asked) = and_true (not (test_at leaving sets packet asked))
 turned_holds leaving sets packet false (Some asked) = and_true (test_at leaving sets packet asked)
 turned_holds leaving sets packet true None = refl
@@ -173,7 +169,7 @@ module _ (leaving : Option (List ℕ)) (sets : List NfSet) (name : List ℕ) (se
       ∙ right_of_none (holds_address sets (set_name name) packet.src) (is_from_set sets (set_name name) packet.mac)
       (no_address (holds_address sets (set_name name) packet.src) (sym (stands packet.src None) ∙ holds_no_mac set packet.src is))
 
-  receiver_kind_holds : (of : SetKind) → set.kind ≡ of → set_holds set packet.dst None ≡ it_holds leaving sets packet (receiver_kind name of)
+  receiver_kind_holds : (of : SetKind) → set.kind ≡ of → set_holds set packet.dst None ≡ asked_holds leaving sets packet (receiver_kind name of)
   receiver_kind_holds kind.Ip is = by_address packet.dst
   receiver_kind_holds kind.Net is = by_address packet.dst
   receiver_kind_holds kind.Mac is = holds_no_mac set packet.dst is
@@ -186,21 +182,21 @@ mac_holds mac None = refl
 mac_holds mac (Some sender) = turned_round mac sender
 
 module _ (ipsets : List IpSet) (leaving : Option (List ℕ)) (sets : List NfSet) (stand : EachStands ipsets sets) (packet : Packet) where
-  source_holds : (asked : Binding) → matches_source ipsets packet.src packet.mac asked ≡ it_holds leaving sets packet (source_test ipsets asked)
+  pub source_holds : (asked : Binding) → matches_source ipsets packet.src packet.mac asked ≡ asked_holds leaving sets packet (source_test ipsets asked)
   source_holds (binding.Net net) = refl
   source_holds (binding.Mac mac) = mac_holds mac packet.mac
   source_holds (binding.Set name) = named_holds sets name packet.src packet.mac ipsets stand ∙ by (set_named ipsets name) refl
     where
-      by : (there : Option IpSet) → set_named ipsets name ≡ there → found sets name packet.src packet.mac there ≡ it_holds leaving sets packet (source_set name there)
+      by : (there : Option IpSet) → set_named ipsets name ≡ there → found sets name packet.src packet.mac there ≡ asked_holds leaving sets packet (source_set name there)
       by None is = refl
       by (Some set) is = source_kind_holds leaving sets name set (found_stands sets name ipsets stand set is) packet set.kind refl
 
-  receiver_holds : (asked : Binding) → matches_source ipsets packet.dst None asked ≡ it_holds leaving sets packet (receiver_test ipsets asked)
+  pub receiver_holds : (asked : Binding) → matches_source ipsets packet.dst None asked ≡ asked_holds leaving sets packet (receiver_test ipsets asked)
   receiver_holds (binding.Net net) = refl
   receiver_holds (binding.Mac mac) = refl
   receiver_holds (binding.Set name) = named_holds sets name packet.dst None ipsets stand ∙ by (set_named ipsets name) refl
     where
-      by : (there : Option IpSet) → set_named ipsets name ≡ there → found sets name packet.dst None there ≡ it_holds leaving sets packet (receiver_set name there)
+      by : (there : Option IpSet) → set_named ipsets name ≡ there → found sets name packet.dst None there ≡ asked_holds leaving sets packet (receiver_set name there)
       by None is = refl
       by (Some set) is = receiver_kind_holds leaving sets name set (found_stands sets name ipsets stand set is) packet set.kind refl
 

@@ -3,10 +3,13 @@
 
 mod alternatives;
 mod icmp;
+mod laws;
 mod rich;
 mod service;
 mod setting;
 mod sides;
 
+pub use laws::sources_are_told;
 pub use rich::rich_matches;
 pub use setting::matches_of;
+pub use sides::{receiver_test, source_test};

@@ -3,6 +3,7 @@ ghost use Rattle.std.specs.Prelude.{◌≡◌, ◌++◌, [], ◌∷◌, IfOk};
 ghost use Rattle.fw_model.specs.declared.setting.Setting.TheVariants as setting;
 ghost use Rattle.lower_match.specs.Lowers.{Lowers};
 ghost use Rattle.lower_match.specs.RichForms.{LowersElement, behind, masquerade_matches, sides_ask};
+ghost use Rattle.lower_match.specs.Stands.{Stand, StandAnywhere};
 
 use crate::alternatives::{alone, is, port_test, source_port_test};
 use crate::icmp::icmp_matches;
@@ -24,7 +25,8 @@ pub fn rich_matches(
     services: &[Service],
     ipsets: &[IpSet],
 ) -> Result<Seq<Seq<Match>>, Memory>
-    ensures { IfOk result (λ alternatives. Lowers services.now ipsets.now (setting.Rich rule.now) alternatives) }
+    ensures tells { IfOk result (λ alternatives. Lowers services.now ipsets.now (setting.Rich rule.now) alternatives) }
+    ensures stand { IfOk result (Stand ipsets.now) }
 {
     let Some(front) = sides(alloc, rule, ipsets)? else {
         return Ok(Seq::new(alloc));
@@ -39,7 +41,8 @@ fn element_matches(
     rule: &Rich,
     services: &[Service],
 ) -> Result<Seq<Seq<Match>>, Memory>
-    ensures { IfOk result (λ alternatives. LowersElement services.now rule.now.family rule.now.element alternatives) }
+    ensures tells { IfOk result (λ alternatives. LowersElement services.now rule.now.family rule.now.element alternatives) }
+    ensures stand { IfOk result StandAnywhere }
 {
     let Some(element) = &rule.element else {
         return only(alloc, Seq::new(alloc));

@@ -5,6 +5,7 @@ ghost use Rattle.fw_model.specs.declared.packet.Packet.{Packet};
 ghost use Rattle.fw_hits.specs.Services.{service_hits};
 ghost use Rattle.lower_match.specs.Forms.{at_end, at_ends, destination, each_at, ends, member_alternatives, place_alternatives, port_test, source_port_test};
 ghost use Rattle.lower_match.specs.Lowers.{one_holds};
+ghost use Rattle.lower_match.specs.Stands.{StandAnywhere};
 ghost use Rattle.nf_rules.specs.declared.set.NfSet.{NfSet};
 ghost use Rattle.nf_rules.specs.declared.test.Test.TheVariants as test;
 
@@ -23,8 +24,9 @@ pub fn service_matches(
     services: &[Service],
     name: &str,
 ) -> Result<Seq<Seq<Match>>, Memory>
-    ensures { IfOk result (λ alternatives. (leaving : Option (List ℕ)) (sets : List NfSet) (packet : Packet)
+    ensures tells { IfOk result (λ alternatives. (leaving : Option (List ℕ)) (sets : List NfSet) (packet : Packet)
         → service_hits services.now name.now packet ≡ one_holds leaving sets packet alternatives) }
+    ensures stand { IfOk result StandAnywhere }
 {
     chains_are_short();
     let places = closure(alloc, services, name)?;

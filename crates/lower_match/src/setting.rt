@@ -1,6 +1,7 @@
 //! The alternatives of a setting.
 ghost use Rattle.std.specs.Prelude.{IfOk};
 ghost use Rattle.lower_match.specs.Lowers.{Lowers};
+ghost use Rattle.lower_match.specs.Stands.{Stand};
 
 use crate::alternatives::{alone, both, port_test, source_port_test};
 use crate::icmp::icmp_matches;
@@ -13,7 +14,8 @@ use nf_rules::{Match, Test};
 use std::alloc::Global;
 
 /// The alternatives of a setting, with the services and ipsets of its configuration: it is about a packet exactly where all
-/// matches of one alternative hold, in every ruleset in which each ipset stands as the set `ipset_` and its name.
+/// matches of one alternative hold, in every ruleset in which each ipset stands as the set `ipset_` and its name. They
+/// look up no other sets.
 ///
 /// Refuses for want of memory alone.
 pub fn matches_of(
@@ -22,7 +24,8 @@ pub fn matches_of(
     services: &[Service],
     ipsets: &[IpSet],
 ) -> Result<Seq<Seq<Match>>, Memory>
-    ensures { IfOk result (λ alternatives. Lowers services.now ipsets.now setting.now alternatives) }
+    ensures tells { IfOk result (λ alternatives. Lowers services.now ipsets.now setting.now alternatives) }
+    ensures stand { IfOk result (Stand ipsets.now) }
 {
     match setting {
         Setting::Service(name) => service_matches(alloc, services, name.as_str()),

@@ -85,8 +85,15 @@ fn set_named<'a>(ipsets: &'a [IpSet], name: &Text) -> Option<&'a IpSet>
     ipsets.iter().find(|set| set.name.as_str() == name.as_str())
 }
 
-/// The test of a sender. None: it never holds.
-fn source_test(alloc: Global, ipsets: &[IpSet], binding: &Binding) -> Result<Option<Test>, Memory>
+/// The test of a sender: its address, its hardware address or the set of its name behind `ipset_` (firewalld.zone(5), `source`).
+/// None: it never holds, as of a set that isn't known.
+///
+/// Refuses for want of memory alone.
+pub fn source_test(
+    alloc: Global,
+    ipsets: &[IpSet],
+    binding: &Binding,
+) -> Result<Option<Test>, Memory>
     ensures { IfOk result (λ test. test ≡ source_test ipsets.now binding.now) }
 {
     let name = match binding {
@@ -106,7 +113,13 @@ fn source_test(alloc: Global, ipsets: &[IpSet], binding: &Binding) -> Result<Opt
 }
 
 /// The test of a receiver, of whom no hardware address is known. None: it never holds.
-fn receiver_test(alloc: Global, ipsets: &[IpSet], binding: &Binding) -> Result<Option<Test>, Memory>
+///
+/// Refuses for want of memory alone.
+pub fn receiver_test(
+    alloc: Global,
+    ipsets: &[IpSet],
+    binding: &Binding,
+) -> Result<Option<Test>, Memory>
     ensures { IfOk result (λ test. test ≡ receiver_test ipsets.now binding.now) }
 {
     let name = match binding {

@@ -35,6 +35,7 @@ use Rattle.lower_zone.specs.Verdicts.{can_decide, decided_by, listed_icmp, liste
 use Rattle.lower_zone.specs.Work.{Adds, ChainDoes, HasOwn, Tells, one_holds_at, under}
 use Rattle.lower_zone.proofs.Alternatives.{chain_returns, each_decides}
 use Rattle.lower_zone.proofs.Sequences.{whole}
+use Rattle.lower_zone.proofs.Built.{AreLeaves, leaves_other_icmp}
 use Rattle.lower_zone.proofs.Tells.{any_map, tells_icmp}
 use Rattle.lower_zone.proofs.Works.{adds_lists, adds_nothing, adds_own, adds_same}
 use Rattle.nf_chains.specs.Moments.{Moment}
@@ -221,11 +222,12 @@ adds_others config block names settings listed own old_rules new_rules old_chain
     (λ packet. ap (λ (hit : Bool). is_icmp packet && not hit)
     (ap (list_any (λ told. hits config told packet)) are ∙ any_map (λ told. hits config told packet) setting.IcmpBlock names))
     (adds_own config block own (under condition (done (decide reject))) old_rules new_rules old_chains new_chains has
+    (subst (AreLeaves config) (sym own_is) (leaves_other_icmp config listed tells.stand))
     (λ table leaving now meeting.
     subst (λ (list : List Rule). ChainDoes table leaving list now (under condition (done (decide reject)) now.packet)) (sym own_is)
     (subst (λ (walked : Walked). ChainDoes table leaving (other_icmp_rules listed) now walked)
-    (ap (λ (hit : Bool). if hit then nothing else (if one_holds_at leaving table now.packet icmp_alternatives && true then done (decide reject) else nothing)) (sym (tells table leaving now meeting))
-    ∙ ap (λ (hit : Bool). if list_any (λ told. hits config told now.packet) settings then nothing else (if hit && true then done (decide reject) else nothing)) (sym (tells_icmp config table leaving now meeting))
+    (ap (λ (hit : Bool). if hit then nothing else (if one_holds_at leaving table now.packet icmp_alternatives && true then done (decide reject) else nothing)) (sym (tells.holds table leaving now meeting))
+    ∙ ap (λ (hit : Bool). if list_any (λ told. hits config told now.packet) settings then nothing else (if hit && true then done (decide reject) else nothing)) (sym ((tells_icmp config).holds table leaving now meeting))
     ∙ others_go (list_any (λ told. hits config told now.packet) settings) (is_icmp now.packet) reject)
     (chain_returns table leaving listed (each (statement reject ∷ []) icmp_alternatives) (if one_holds_at leaving table now.packet icmp_alternatives && true then done (decide reject) else nothing) now
     (λ count. whole table leaving (each (statement reject ∷ []) icmp_alternatives) (record now { looked_at = count }) (if one_holds_at leaving table now.packet icmp_alternatives && true then done (decide reject) else nothing)

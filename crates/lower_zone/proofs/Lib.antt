@@ -4,3 +4,4 @@ pub mod Sequences
 pub mod Tells
 pub mod Works
 pub mod Apart
+pub mod Built

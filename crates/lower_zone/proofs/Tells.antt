@@ -22,6 +22,8 @@ use Rattle.fw_model.specs.declared.service.Service.{Service}
 use Rattle.fw_model.specs.declared.setting.Setting.{Setting}
 use Rattle.fw_verdict.specs.Rich.{passes}
 use Rattle.lower_match.specs.Lowers.{EachStands, Lowers}
+use Rattle.lower_match.specs.Stands.{Stand, alternatives_stand, matches_stand}
+use Rattle.lower_zone.proofs.Built.{all_joined, both}
 use Rattle.lower_zone.specs.Evaluates.{Meeting}
 use Rattle.lower_zone.specs.Forms.{icmp_alternatives, limit_matches, limited}
 use Rattle.lower_zone.specs.Work.{Tells, one_holds_at}
@@ -31,6 +33,7 @@ use Rattle.nf_eval.specs.Tests.{is_same_limit, is_same_unit}
 use Rattle.nf_rules.specs.declared.rule.Match.{Match}
 use Rattle.nf_rules.specs.declared.ruleset.Ruleset.{Ruleset}
 use Rattle.nf_rules.specs.declared.set.NfSet.{NfSet}
+use Rattle.nf_sound.specs.Sound.{test_stands}
 
 pub any_map : {A B : Type 0} (test : B → Bool) (of : A → B) (xs : List A) → list_any test (map of xs) ≡ list_any (λ x. test (of x)) xs
 any_map test of [] = refl
@@ -65,26 +68,35 @@ any_with condition test (x ∷ xs) =
 -- the alternatives of a setting
 pub tells_setting : (config : Config) (told : Setting) (alternatives : List (List Match)) (services : List Service) (ipsets : List IpSet)
     → services ≡ config.services → ipsets ≡ config.ipsets
-    → Lowers services ipsets told alternatives → Tells config alternatives (hits config told)
-tells_setting config told alternatives services ipsets same same_sets lowers rules leaving now meeting =
-    lowers config rules leaving now.packet (sym same) (sym same_sets)
-    (subst (λ (sets : List IpSet). EachStands sets rules.sets) (sym same_sets) meeting.sets) meeting.packet
+    → Lowers services ipsets told alternatives → Stand ipsets alternatives → Tells config alternatives (hits config told)
+tells_setting config told alternatives services ipsets same same_sets lowers stand = record {
+  holds = λ rules leaving now meeting.
+      lowers config rules leaving now.packet (sym same) (sym same_sets)
+      (subst (λ (sets : List IpSet). EachStands sets rules.sets) (sym same_sets) meeting.sets) meeting.packet;
+  stand = subst (λ (sets : List IpSet). Stand sets alternatives) same_sets stand;
+}
 
 -- nothing is told by no alternative
 pub tells_nothing : (config : Config) → Tells config [] (λ packet. false)
-tells_nothing config rules leaving now meeting = refl
+tells_nothing config = record { holds = λ rules leaving now meeting. refl; stand = λ rules sets. refl }
 
 -- one of two conditions
 pub tells_either : (config : Config) (one other : List (List Match)) (first second : Packet → Bool)
     → Tells config one first → Tells config other second → Tells config (one ++ other) (λ packet. first packet || second packet)
-tells_either config one other first second is is' rules leaving now meeting =
-    ap (λ (hit : Bool). hit || second now.packet) (is rules leaving now meeting)
-    ∙ ap (λ (hit : Bool). one_holds_at leaving rules now.packet one || hit) (is' rules leaving now meeting)
-    ∙ sym (list_any-append (list_all (match_at leaving rules.sets now.packet)) one other)
+tells_either config one other first second is is' = record {
+  holds = λ rules leaving now meeting.
+      ap (λ (hit : Bool). hit || second now.packet) (is.holds rules leaving now meeting)
+      ∙ ap (λ (hit : Bool). one_holds_at leaving rules now.packet one || hit) (is'.holds rules leaving now meeting)
+      ∙ sym (list_any-append (list_all (match_at leaving rules.sets now.packet)) one other);
+  stand = λ rules sets. all_joined (matches_stand rules) one other (is.stand rules sets) (is'.stand rules sets);
+}
 
 pub tells_same : (config : Config) (alternatives : List (List Match)) (one other : Packet → Bool)
     → ((packet : Packet) → other packet ≡ one packet) → Tells config alternatives one → Tells config alternatives other
-tells_same config alternatives one other same is rules leaving now meeting = same now.packet ∙ is rules leaving now meeting
+tells_same config alternatives one other same is = record {
+  holds = λ rules leaving now meeting. same now.packet ∙ is.holds rules leaving now meeting;
+  stand = is.stand;
+}
 
 unit_same : (one other : Span) → same_unit one other ≡ is_same_unit one other
 unit_same unit.Second unit.Second = refl
@@ -112,17 +124,40 @@ limit_holds sets leaving packet (Some limit) =
     any_same (same_limit limit) (is_same_limit limit) (λ other. ap (λ (same : Bool). limit.count == other.count && same) (unit_same limit.unit other.unit)) packet.limits
     ∙ sym (and_true (list_any (is_same_limit limit) packet.limits))
 
+-- a limit looks up no set
+limited_stands : (rules : Ruleset) (limit : Option Limit) (alternatives : List (List Match)) → alternatives_stand rules alternatives ≡ true → alternatives_stand rules (limited limit alternatives) ≡ true
+limited_stands rules limit [] all = refl
+limited_stands rules limit (alternative ∷ others) all =
+    both (matches_stand rules (alternative ++ limit_matches limit)) _
+    (all_joined (λ (tested : Match). test_stands rules tested.test) alternative (limit_matches limit) (left (matches_stand rules alternative) _ all) (one limit))
+    (limited_stands rules limit others (right (matches_stand rules alternative) _ all))
+  where
+    one : (some : Option Limit) → matches_stand rules (limit_matches some) ≡ true
+    one None = refl
+    one (Some limit) = refl
+
+    left : (a b : Bool) → (a && b) ≡ true → a ≡ true
+    left true b is = refl
+    left false b is = cc
+
+    right : (a b : Bool) → (a && b) ≡ true → b ≡ true
+    right true b is = is
+    right false b is = cc
+
 -- what is told, within a limit
 pub tells_limited : (config : Config) (alternatives : List (List Match)) (condition : Packet → Bool) (limit : Option Limit)
     → Tells config alternatives condition → Tells config (limited limit alternatives) (λ packet. condition packet && passes limit packet)
-tells_limited config alternatives condition limit is rules leaving now meeting =
-    let each_holds = list_all (match_at leaving rules.sets now.packet) in
-    ap (λ (hit : Bool). hit && passes limit now.packet) (is rules leaving now meeting)
-    ∙ ap (λ (passed : Bool). list_any each_holds alternatives && passed) (limit_holds rules.sets leaving now.packet limit)
-    ∙ sym (any_with (each_holds (limit_matches limit)) each_holds alternatives)
-    ∙ sym (any_same (λ alternative. each_holds (alternative ++ limit_matches limit)) (λ alternative. each_holds alternative && each_holds (limit_matches limit))
-    (λ alternative. list_all-append (match_at leaving rules.sets now.packet) alternative (limit_matches limit)) alternatives)
-    ∙ sym (any_map each_holds (λ alternative. alternative ++ limit_matches limit) alternatives)
+tells_limited config alternatives condition limit is = record {
+  holds = λ rules leaving now meeting.
+      let each_holds = list_all (match_at leaving rules.sets now.packet) in
+      ap (λ (hit : Bool). hit && passes limit now.packet) (is.holds rules leaving now meeting)
+      ∙ ap (λ (passed : Bool). list_any each_holds alternatives && passed) (limit_holds rules.sets leaving now.packet limit)
+      ∙ sym (any_with (each_holds (limit_matches limit)) each_holds alternatives)
+      ∙ sym (any_same (λ alternative. each_holds (alternative ++ limit_matches limit)) (λ alternative. each_holds alternative && each_holds (limit_matches limit))
+      (λ alternative. list_all-append (match_at leaving rules.sets now.packet) alternative (limit_matches limit)) alternatives)
+      ∙ sym (any_map each_holds (λ alternative. alternative ++ limit_matches limit) alternatives);
+  stand = λ rules sets. limited_stands rules limit alternatives (is.stand rules sets);
+}
 
 of_v4 : (address : Addr) → family address ≡ V4 → is_v4 address ≡ true
 of_v4 (addr.V4 number) same = refl
@@ -152,5 +187,8 @@ two_hold false false = refl
 
 -- ICMP is told by its two protocols
 pub tells_icmp : (config : Config) → Tells config icmp_alternatives is_icmp
-tells_icmp config rules leaving now meeting =
-    icmp_of now.packet meeting.packet ∙ two_hold (now.packet.proto == icmp_protocol) (now.packet.proto == icmpv6_protocol)
+tells_icmp config = record {
+  holds = λ rules leaving now meeting.
+      icmp_of now.packet meeting.packet ∙ two_hold (now.packet.proto == icmp_protocol) (now.packet.proto == icmpv6_protocol);
+  stand = λ rules sets. refl;
+}

@@ -3,5 +3,6 @@ pub mod Forms
 pub mod Laws
 pub mod Names
 pub mod Parts
+pub mod Stands
 pub mod Verdicts
 pub mod Work

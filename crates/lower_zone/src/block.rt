@@ -8,8 +8,9 @@ ghost use Rattle.nf_rules.specs.declared.chain.Chain.{Chain};
 ghost use Rattle.lower_zone.specs.Evaluates.{Evaluates};
 ghost use Rattle.fw_verdict.specs.declared.rich.Part.{Part};
 ghost use Rattle.lower_zone.specs.Names.{NamesDiffer, block_name, part_name, place};
+ghost use Rattle.lower_zone.specs.Stands.{StandAlone};
 ghost use Rattle.lower_zone.specs.Parts.{part_items, plain_items};
-ghost use Rattle.lower_zone.specs.Work.{AreNamed, Adds};
+ghost use Rattle.lower_zone.specs.Work.{AreNamed, Adds, AddsParts};
 
 use crate::listed::{push_blocks, push_listed};
 use crate::names::{block_name, part_name};
@@ -54,7 +55,7 @@ fn push_chain(
 ) -> Result<(), Memory>
     ensures adds { OnOk result ((config : Config) (walked : Packet → Walked) (before : List Chain)
         → Adds config walked [] made before chains.old
-        → Adds config walked rules.old rules.new before chains.new) }
+        → AddsParts config walked rules.old rules.new before chains.new) }
     ensures names { OnOk result ((block : List ℕ) (part : Part) → name ≡ part_name part block → AreNamed block (place part) chains.old → AreNamed block (suc (place part)) chains.new) }
 {
     if made.as_slice().is_empty() {
@@ -79,7 +80,7 @@ fn push_part(
     rules: &mut Seq<Rule>,
     chains: &mut Seq<Chain>,
 ) -> Result<(), Memory>
-    ensures adds { OnOk result (Adds config.now (walk (part_items config.now settings.now inversion part)) rules.old rules.new chains.old chains.new) }
+    ensures adds { OnOk result (AddsParts config.now (walk (part_items config.now settings.now inversion part)) rules.old rules.new chains.old chains.new) }
     ensures names { OnOk result (AreNamed block.now (place part) chains.old → AreNamed block.now (suc (place part)) chains.new) }
 {
     let mut made = Seq::new(alloc);
@@ -101,7 +102,7 @@ fn push_parts(
     rules: &mut Seq<Rule>,
     chains: &mut Seq<Chain>,
 ) -> Result<(), Memory>
-    ensures adds { OnOk result (Adds config.now (walk (items config.now settings.now inversion)) rules.old rules.new chains.old chains.new) }
+    ensures adds { OnOk result (AddsParts config.now (walk (items config.now settings.now inversion)) rules.old rules.new chains.old chains.new) }
     ensures names { OnOk result (AreNamed block.now 0 chains.old → AreNamed block.now 5 chains.new) }
 {
     push_part(
@@ -168,6 +169,7 @@ pub fn block_chains(
 ) -> Result<Seq<Chain>, Memory>
     ensures evaluates { IfOk result (λ chains. Evaluates config.now chains (block_name block.now) (walk (items config.now settings.now inversion))) }
     ensures names { IfOk result (λ chains. NamesDiffer block.now chains) }
+    ensures stands { IfOk result (λ chains. StandAlone config.now chains (block_name block.now)) }
 {
     let mut rules = Seq::new(alloc);
     let mut chains = Seq::new(alloc);

@@ -5,6 +5,7 @@ ghost use Rattle.fw_verdict.specs.Items.{items};
 ghost use Rattle.fw_verdict.specs.Walk.{walk};
 ghost use Rattle.lower_zone.specs.Evaluates.{Evaluates};
 ghost use Rattle.lower_zone.specs.Names.{NamesDiffer, block_name, policy_block};
+ghost use Rattle.lower_zone.specs.Stands.{StandAlone};
 
 use crate::block::block_chains;
 use crate::names::policy_block;
@@ -31,6 +32,8 @@ pub fn policy_chains(alloc: Global, runtime: &Runtime, policy: usize) -> Result<
     ensures evaluates { IfOk result (λ chains. (it : Policy) → slice_get runtime.now.config.policies policy ≡ Some it
         → Evaluates runtime.now.config chains (block_name (policy_block it.name)) (walk (items runtime.now.config it.rules false))) }
     ensures names { IfOk result (λ chains. (it : Policy) → slice_get runtime.now.config.policies policy ≡ Some it → NamesDiffer (policy_block it.name) chains) }
+    ensures stands { IfOk result (λ chains. (it : Policy) → slice_get runtime.now.config.policies policy ≡ Some it
+        → StandAlone runtime.now.config chains (block_name (policy_block it.name))) }
 {
     let config = &runtime.config;
     let policy = policy_at(config, policy);

@@ -5,6 +5,7 @@ ghost use Rattle.fw_verdict.specs.Items.{items};
 ghost use Rattle.fw_verdict.specs.Walk.{walk};
 ghost use Rattle.lower_zone.specs.Evaluates.{Evaluates};
 ghost use Rattle.lower_zone.specs.Names.{NamesDiffer, block_name, zone_block};
+ghost use Rattle.lower_zone.specs.Stands.{StandAlone};
 
 use crate::block::block_chains;
 use crate::names::zone_block;
@@ -32,6 +33,8 @@ pub fn zone_chains(alloc: Global, runtime: &Runtime, zone: usize) -> Result<Seq<
     ensures evaluates { IfOk result (λ chains. (it : Zone) → slice_get runtime.now.config.zones zone ≡ Some it
         → Evaluates runtime.now.config chains (block_name (zone_block it.name)) (walk (items runtime.now.config it.rules it.inversion))) }
     ensures names { IfOk result (λ chains. (it : Zone) → slice_get runtime.now.config.zones zone ≡ Some it → NamesDiffer (zone_block it.name) chains) }
+    ensures stands { IfOk result (λ chains. (it : Zone) → slice_get runtime.now.config.zones zone ≡ Some it
+        → StandAlone runtime.now.config chains (block_name (zone_block it.name))) }
 {
     let config = &runtime.config;
     let zone = zone_at(config, zone);

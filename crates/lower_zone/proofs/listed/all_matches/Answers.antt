@@ -24,7 +24,7 @@ loop-setting-preserved c =
     (tells_same config (c.loop-setting.all ++ c.in_ok-alternatives.alternatives) (λ packet. before packet || hits config told packet) all
     (λ packet. any_more (λ one. hits config one packet) c.args.settings.now c.loop-setting.setting-index told c.loop-setting-test.true c.setting-item.is)
     (tells_either config c.loop-setting.all c.in_ok-alternatives.alternatives before (hits config told) c.loop-setting.invariant
-    (tells_setting config told c.in_ok-alternatives.alternatives c.as_slice.result.now c.as_slice-in-loop-setting.result.now c.as_slice.ensures c.as_slice-in-loop-setting.ensures c.in_ok-alternatives.ensures)))
+    (tells_setting config told c.in_ok-alternatives.alternatives c.as_slice.result.now c.as_slice-in-loop-setting.result.now c.as_slice.ensures c.as_slice-in-loop-setting.ensures c.in_ok-alternatives.ensures.tells c.in_ok-alternatives.ensures.stand)))
 
 pub returns : goal.returns
 returns c =

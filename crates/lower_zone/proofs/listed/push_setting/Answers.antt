@@ -11,5 +11,5 @@ returns c =
     (λ are chains can.
     adds_setting c.args.config.now c.args.verdict c.args.setting.now _ _ chains can
     (adds_decision c.args.config.now (hits c.args.config.now c.args.setting.now) _ c.args.verdict _ _ chains are
-    (tells_setting c.args.config.now c.args.setting.now c.in_ok-alternatives.alternatives c.as_slice.result.now c.as_slice-2.result.now c.as_slice.ensures c.as_slice-2.ensures c.in_ok-alternatives.ensures)))
+    (tells_setting c.args.config.now c.args.setting.now c.in_ok-alternatives.alternatives c.as_slice.result.now c.as_slice-2.result.now c.as_slice.ensures c.as_slice-2.ensures c.in_ok-alternatives.ensures.tells c.in_ok-alternatives.ensures.stand)))
     c.push_decision.ensures

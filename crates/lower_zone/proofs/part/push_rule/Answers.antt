@@ -16,7 +16,7 @@ returns-in-Log-clause-adds c =
     on_ok_weaker c.push_lines.result
     (λ adds.
     subst (λ (stage : Part). Adds config (walk (rule_items config stage rule)) c.args.rules.now c.push_lines.new.rules c.args.chains.now c.push_lines.new.chains)
-    (sym c.in-Log.is) (adds config (tells_setting config (setting.Rich rule) c.in_ok-alternatives.alternatives c.as_slice.result.now c.as_slice-2.result.now c.as_slice.ensures c.as_slice-2.ensures c.in_ok-alternatives.ensures)))
+    (sym c.in-Log.is) (adds config (tells_setting config (setting.Rich rule) c.in_ok-alternatives.alternatives c.as_slice.result.now c.as_slice-2.result.now c.as_slice.ensures c.as_slice-2.ensures c.in_ok-alternatives.ensures.tells c.in_ok-alternatives.ensures.stand)))
     c.push_lines.ensures.adds
 
 pub returns-in-Deny-clause-adds : goal.returns-in-Deny-clause-adds
@@ -26,7 +26,7 @@ returns-in-Deny-clause-adds c =
     on_ok_weaker c.push_action.result
     (λ adds.
     subst (λ (stage : Part). Adds config (walk (rule_items config stage rule)) c.args.rules.now c.push_action.new.rules c.args.chains.now c.args.chains.now)
-    (sym c.in-Deny.is) (adds config c.args.chains.now (tells_setting config (setting.Rich rule) c.in_ok-alternatives.alternatives c.as_slice.result.now c.as_slice-2.result.now c.as_slice.ensures c.as_slice-2.ensures c.in_ok-alternatives.ensures)))
+    (sym c.in-Deny.is) (adds config c.args.chains.now (tells_setting config (setting.Rich rule) c.in_ok-alternatives.alternatives c.as_slice.result.now c.as_slice-2.result.now c.as_slice.ensures c.as_slice-2.ensures c.in_ok-alternatives.ensures.tells c.in_ok-alternatives.ensures.stand)))
     c.push_action.ensures
 
 pub returns-in-Allow-clause-adds : goal.returns-in-Allow-clause-adds
@@ -36,14 +36,14 @@ returns-in-Allow-clause-adds c =
     on_ok_weaker c.push_action-in-Allow.result
     (λ adds.
     subst (λ (stage : Part). Adds config (walk (rule_items config stage rule)) c.args.rules.now c.push_action-in-Allow.new.rules c.args.chains.now c.args.chains.now)
-    (sym c.in-Allow.is) (adds config c.args.chains.now (tells_setting config (setting.Rich rule) c.in_ok-alternatives.alternatives c.as_slice.result.now c.as_slice-2.result.now c.as_slice.ensures c.as_slice-2.ensures c.in_ok-alternatives.ensures)))
+    (sym c.in-Allow.is) (adds config c.args.chains.now (tells_setting config (setting.Rich rule) c.in_ok-alternatives.alternatives c.as_slice.result.now c.as_slice-2.result.now c.as_slice.ensures c.as_slice-2.ensures c.in_ok-alternatives.ensures.tells c.in_ok-alternatives.ensures.stand)))
     c.push_action-in-Allow.ensures
 
 pub returns-in_ok-push_lines-in-Pre-clause-adds : goal.returns-in_ok-push_lines-in-Pre-clause-adds
 returns-in_ok-push_lines-in-Pre-clause-adds c =
     let config = c.args.config.now in
     let rule = c.args.rule.now in
-    let tells = tells_setting config (setting.Rich rule) c.in_ok-alternatives.alternatives c.as_slice.result.now c.as_slice-2.result.now c.as_slice.ensures c.as_slice-2.ensures c.in_ok-alternatives.ensures in
+    let tells = tells_setting config (setting.Rich rule) c.in_ok-alternatives.alternatives c.as_slice.result.now c.as_slice-2.result.now c.as_slice.ensures c.as_slice-2.ensures c.in_ok-alternatives.ensures.tells c.in_ok-alternatives.ensures.stand in
     on_ok_weaker c.push_action-in-Pre.result
     (λ adds.
     subst (λ (stage : Part). Adds config (walk (rule_items config stage rule)) c.args.rules.now c.push_action-in-Pre.new.rules c.args.chains.now c.push_lines-in-Pre.new.chains)
@@ -55,7 +55,7 @@ pub returns-in_ok-push_lines-in-Post-clause-adds : goal.returns-in_ok-push_lines
 returns-in_ok-push_lines-in-Post-clause-adds c =
     let config = c.args.config.now in
     let rule = c.args.rule.now in
-    let tells = tells_setting config (setting.Rich rule) c.in_ok-alternatives.alternatives c.as_slice.result.now c.as_slice-2.result.now c.as_slice.ensures c.as_slice-2.ensures c.in_ok-alternatives.ensures in
+    let tells = tells_setting config (setting.Rich rule) c.in_ok-alternatives.alternatives c.as_slice.result.now c.as_slice-2.result.now c.as_slice.ensures c.as_slice-2.ensures c.in_ok-alternatives.ensures.tells c.in_ok-alternatives.ensures.stand in
     on_ok_weaker c.push_action-in-Post.result
     (λ adds.
     subst (λ (stage : Part). Adds config (walk (rule_items config stage rule)) c.args.rules.now c.push_action-in-Post.new.rules c.args.chains.now c.push_lines-in-Post.new.chains)

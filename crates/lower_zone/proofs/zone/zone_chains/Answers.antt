@@ -4,6 +4,7 @@ use Rattle.fw_model.specs.declared.zone.Zone.{Zone}
 use Rattle.fw_verdict.specs.Items.{items}
 use Rattle.fw_verdict.specs.Walk.{walk}
 use Rattle.lower_zone.specs.Evaluates.{Evaluates}
+use Rattle.lower_zone.specs.Stands.{StandAlone}
 use Rattle.lower_zone.specs.Names.{NamesDiffer, block_name, zone_block}
 use Rattle.lower_zone.proofs.zone.zone_chains.Goals as goal
 
@@ -28,3 +29,13 @@ returns-clause-names c =
     (one_there c.zone_at-zone.result.now it (sym c.zone_at-zone.ensures ∙ is))
     (subst (λ (block : List ℕ). NamesDiffer block made) c.in_ok-block.ensures differ))
     c.block_chains.ensures.names
+
+pub returns-clause-stands : goal.returns-clause-stands
+returns-clause-stands c =
+    let config = c.args.runtime.now.config in
+    IfOk-weaker c.block_chains.result _ _
+    (λ made alone it is.
+    subst (λ (zone : Zone). StandAlone config made (block_name (zone_block zone.name)))
+    (one_there c.zone_at-zone.result.now it (sym c.zone_at-zone.ensures ∙ is))
+    (subst (λ (block : List ℕ). StandAlone config made (block_name block)) c.in_ok-block.ensures alone))
+    c.block_chains.ensures.stands

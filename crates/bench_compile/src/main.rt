@@ -1,0 +1,158 @@
+//! Compiles the settings of a zone with many ports and rich rules and of many policies, again and again, or asks what becomes of packets
+//! under them, and prints what came out in numbers alone. The arguments say how often, what (`compile`, `verdict` or `eval`), and how
+//! many ports and rich rules there are; of policies there are a tenth as many. The folder bench/ has the yardstick of `compile`.
+#![tactic(auto)]
+
+ghost use Rattle.nf_chains.specs.Condition.{FiltersAlone};
+
+use anyhow::{Result, anyhow};
+use fw_broken::broken_rule;
+use fw_model::{Config, Packet, Runtime, Verdict};
+use fw_packet::read_packet;
+use fw_rows::edit;
+use fw_service::built_in_config;
+use fw_verdict::verdict;
+use fw_words::split_words;
+use lower_all::Nft;
+use nf_chains::{eval_verdict, filters_alone};
+use nf_rules::Ruleset;
+use std::alloc::Global;
+use std::env;
+
+/// Does what a line says to a configuration.
+fn add(alloc: Global, config: &mut Config, line: &str) -> Result<()> {
+    let words = split_words(alloc, line)?;
+    Ok(edit(alloc, config, words.as_slice())?)
+}
+
+/// So many ports and rich rules in one zone, and a tenth as many policies.
+fn settings(alloc: Global, count: u64) -> Result<Runtime> {
+    let mut config = built_in_config(alloc)?;
+    for number in 0..count {
+        let port = number % 60_000 + 1_000;
+        let (high, low) = (number / 256 % 256, number % 256);
+        let act = if number % 2 == 0 { "accept" } else { "drop" };
+        let port_line = format!(in alloc; "set public {port}/udp")?;
+        add(alloc, &mut config, port_line.as_str())?;
+        let rule_line = format!(in alloc;
+            "set public 'rule family=\"ipv4\" source address=\"10.{high}.{low}.0/24\" port port=\"{port}\" protocol=\"tcp\" {act}'"
+        )?;
+        add(alloc, &mut config, rule_line.as_str())?;
+        if number % 10 == 0 {
+            let priority = number % 30_000 + 1;
+            let policy_line = format!(in alloc;
+                "policy p{number} {priority} CONTINUE ANY HOST {port}/sctp"
+            )?;
+            add(alloc, &mut config, policy_line.as_str())?;
+        }
+    }
+    Ok(Runtime {
+        panic: false,
+        config,
+    })
+}
+
+/// How many chains and how many rules a ruleset has.
+fn counted(rules: &Ruleset) -> (usize, usize) {
+    let mut count: usize = 0;
+    for chain in rules.chains.as_slice() {
+        count = count.wrapping_add(chain.rules.as_slice().len());
+    }
+    (rules.chains.as_slice().len(), count)
+}
+
+/// Compiles the settings so often, and tells how many chains and rules come out each time.
+fn compile_often(alloc: Global, runtime: &Runtime, count: u64) -> Result<(usize, usize)> {
+    let mut last = (0, 0);
+    for _ in 0..count {
+        last = counted(&Nft.compile(alloc, runtime)?);
+    }
+    Ok(last)
+}
+
+/// The packets that are asked about: one of a rich rule in the middle, one that nothing lets in, and one of the last policy.
+const PACKETS: [&str; 3] = [
+    "in=eth0 src=10.0.50.1 dst=198.51.100.1 proto=tcp sport=40000 dport=1050",
+    "in=eth0 src=192.0.2.1 dst=198.51.100.1 proto=tcp sport=40000 dport=9",
+    "in=eth0 src=192.0.2.1 dst=198.51.100.1 proto=sctp sport=40000 dport=1990",
+];
+
+fn packets(alloc: Global) -> Result<Vec<Packet>> {
+    let mut packets = Vec::new(alloc);
+    for line in PACKETS {
+        let words = split_words(alloc, line)?;
+        packets.push(read_packet(alloc, words.as_slice())?)?;
+    }
+    Ok(packets)
+}
+
+/// Asks the walk so often what becomes of the packets, and counts how often one is let in.
+fn walk_often(alloc: Global, runtime: &Runtime, packets: &[Packet], count: u64) -> Result<u64> {
+    let mut accepted: u64 = 0;
+    for _ in 0..count {
+        for packet in packets {
+            if verdict(alloc, runtime, packet)?.verdict == Verdict::Accept {
+                accepted = accepted.wrapping_add(1);
+            }
+        }
+    }
+    Ok(accepted)
+}
+
+/// Asks a ruleset so often.
+fn evaluate_often(rules: &Ruleset, packets: &[Packet], count: u64) -> u64
+    requires { FiltersAlone rules.now }
+{
+    let mut accepted: u64 = 0;
+    for _ in 0..count {
+        for packet in packets {
+            if eval_verdict(rules, packet) == Verdict::Accept {
+                accepted = accepted.wrapping_add(1);
+            }
+        }
+    }
+    accepted
+}
+
+/// Does the work so often, and gives what is to be printed.
+fn worked(alloc: Global, runtime: &Runtime, work: &str, count: u64) -> Result<String> {
+    let packets = packets(alloc)?;
+    match work {
+        "compile" => {
+            let (chains, rules) = compile_often(alloc, runtime, count)?;
+            Ok(format!(in alloc; "{chains} chains, {rules} rules")?)
+        }
+        "verdict" => {
+            let accepted = walk_often(alloc, runtime, packets.as_slice(), count)?;
+            Ok(format!(in alloc; "{accepted} accepted")?)
+        }
+        _ => {
+            let rules = Nft.compile(alloc, runtime)?;
+            if !filters_alone(alloc, &rules) {
+                return Err(anyhow!("no ruleset that can be evaluated"));
+            }
+            let accepted = evaluate_often(&rules, packets.as_slice(), count);
+            Ok(format!(in alloc; "{accepted} accepted")?)
+        }
+    }
+}
+
+fn main(rt: HostRuntime) -> Result<()> {
+    let alloc = rt.alloc();
+    let mut words = env::args(&rt)?.skip(1);
+    let (Some(count), Some(work), Some(size)) = (words.next(), words.next(), words.next()) else {
+        return Err(anyhow!("how often, what, and over how many ports?"));
+    };
+    let runtime = settings(alloc, size.as_str().parse::<u64>()?)?;
+    if broken_rule(&runtime.config).is_some() {
+        return Err(anyhow!("the settings aren't valid"));
+    }
+    let text = worked(
+        alloc,
+        &runtime,
+        work.as_str(),
+        count.as_str().parse::<u64>()?,
+    )?;
+    println!(rt; "{}", text.as_str())?;
+    Ok(())
+}

@@ -1,0 +1,4 @@
+pub mod Broken
+pub mod Named
+pub mod Once
+pub mod Rich

@@ -1,0 +1,4 @@
+pub mod Parts
+pub mod Settling
+pub mod Starting
+pub mod Valid

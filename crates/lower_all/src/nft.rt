@@ -1,0 +1,49 @@
+//! The compiler.
+ghost use Rattle.std.specs.Prelude.{◌≡◌, [], IfOk};
+
+use crate::blocks::{push_block, push_policies, push_zones};
+use crate::sets::sets_of;
+use crate::zones::used_zones;
+use fw_base::{Memory, Seq};
+use fw_model::Runtime;
+use lower_hooks::{forward_chains, input_chains, output_chains};
+use nf_rules::{Chain, Ruleset};
+use std::alloc::Global;
+
+/// The compiler of settings to rulesets of nft(8).
+///
+/// What the chains of each hook do in a ruleset in which they stand is proved (`lower_hooks`), and so is what those of settings do
+/// (`lower_zone`). That all of them stand side by side, so that the ruleset is sound and does what the settings say, isn't proved yet.
+pub struct Nft;
+
+/// All chains, in order of their names.
+fn chains_of(alloc: Global, runtime: &Runtime) -> Result<Seq<Chain>, Memory> {
+    let config = &runtime.config;
+    let used = used_zones(alloc, config)?;
+    let zones = used.as_slice();
+    let mut chains = Seq::new(alloc);
+    push_block(input_chains(alloc, config, zones)?, &mut chains)?;
+    push_block(forward_chains(alloc, config, zones)?, &mut chains)?;
+    push_block(output_chains(alloc, config, zones)?, &mut chains)?;
+    push_zones(alloc, runtime, &mut chains)?;
+    push_policies(alloc, runtime, zones, &mut chains)?;
+    let mut ordered = chains.into_vec();
+    ordered.sort_by(|one, other| one.name.as_str().cmp(&other.name.as_str()))?;
+    Ok(Seq::from_vec(ordered))
+}
+
+impl Nft {
+    /// The ruleset of the settings in force: base chains at input, forward and output, behind them a chain for each zone in use, or for
+    /// each two of them, and the chains of those settings to which they jump; each ipset as its set.
+    ///
+    /// Refuses for want of memory alone.
+    pub fn compile(&self, alloc: Global, runtime: &Runtime) -> Result<Ruleset, Memory>
+        ensures no_map { IfOk result (λ rules. rules.maps ≡ []) }
+    {
+        Ok(Ruleset {
+            chains: chains_of(alloc, runtime)?,
+            sets: sets_of(alloc, runtime.config.ipsets.as_slice())?,
+            maps: Seq::new(alloc),
+        })
+    }
+}

@@ -1,0 +1,16 @@
+//! The zones that packets come from or go to.
+use fw_base::Memory;
+use fw_model::{Config, Zone};
+use lower_dispatch::is_in_use;
+use std::alloc::Global;
+
+/// The zones that packets may belong to, as they are listed.
+pub fn used_zones(alloc: Global, config: &Config) -> Result<Vec<&Zone>, Memory> {
+    let mut used = Vec::new(alloc);
+    for zone in config.zones.as_slice() {
+        if is_in_use(config, zone) {
+            used.push(zone)?;
+        }
+    }
+    Ok(used)
+}

@@ -1,0 +1,5 @@
+pub mod Dispatch
+pub mod Forms
+pub mod Laws
+pub mod Sorting
+pub mod Uses

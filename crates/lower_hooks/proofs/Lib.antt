@@ -1,0 +1,10 @@
+pub mod Works
+pub mod Idle
+pub mod Deciding
+pub mod Ways
+pub mod Lists
+pub mod Kept
+pub mod Passing
+pub mod Filter
+pub mod Bases
+pub mod Named

@@ -1,0 +1,8 @@
+pub mod Chains
+pub mod Laws
+pub mod Names
+pub mod Rules
+pub mod Settings
+pub mod Stands
+pub mod Work
+pub mod Zones

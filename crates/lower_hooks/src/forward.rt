@@ -1,0 +1,45 @@
+//! What is done with packets that are forwarded.
+ghost use Rattle.std.specs.Prelude.{◌≡◌, Some, IfOk, OnOk};
+ghost use Rattle.fw_model.specs.declared.config.Config.{Config};
+ghost use Rattle.fw_verdict.specs.Way.{forward_walk};
+ghost use Rattle.lower_hooks.specs.Work.{Adds, DoIn};
+ghost use Rattle.lower_hooks.specs.Zones.{ForwardStands, zone_to_zone};
+
+use crate::policies::push_policies;
+use crate::rules::push_always;
+use fw_base::{Memory, Seq};
+use fw_model::{Config, Verdict, Zone};
+use fw_verdict::{End, Stage, stays_within, target_forwarded};
+use nf_rules::Rule;
+use std::alloc::Global;
+
+/// Appends what accepts the packets that may stay within a zone.
+fn push_within(alloc: Global, from: &Zone, to: &Zone, rules: &mut Seq<Rule>) -> Result<(), Memory>
+    ensures { OnOk result ((config : Config) → Adds config (λ table. Unit {0}) (λ packet. forward_walk (Some from.now) (Some to.now)) rules.old rules.new) }
+{
+    if stays_within(Some(from), Some(to)) {
+        push_always(alloc, Verdict::Accept, rules)
+    } else {
+        Ok(())
+    }
+}
+
+/// The rules for the packets that are forwarded from a zone to a zone: policies, what may stay within the zone, policies, and the target
+/// of the zone that they come from.
+pub fn forward_rules(
+    alloc: Global,
+    config: &Config,
+    from: &Zone,
+    to: &Zone,
+) -> Result<Seq<Rule>, Memory>
+    ensures { IfOk result (λ rules. DoIn config.now (ForwardStands config.now from.now to.now) rules (zone_to_zone config.now from.now to.now)) }
+{
+    let one = End::Zone(Some(from));
+    let other = End::Zone(Some(to));
+    let mut rules = Seq::new(alloc);
+    push_policies(alloc, config, Stage::BeforeZone, one, other, &mut rules)?;
+    push_within(alloc, from, to, &mut rules)?;
+    push_policies(alloc, config, Stage::BehindZone, one, other, &mut rules)?;
+    push_always(alloc, target_forwarded(from.target), &mut rules)?;
+    Ok(rules)
+}
