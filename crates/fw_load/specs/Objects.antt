@@ -2,10 +2,8 @@
 -- they are read here. A table is in byte order.
 use Rattle.std.specs.Prelude.{ℕ, Bool, List, [], ◌∷◌, Option, None, Some, Result, Ok, Err, codes, option_map, unwrap_or}
 use Rattle.fw_addr.specs.Interfaces.{interface}
-use Rattle.fw_addr.specs.Nets.{net}
-use Rattle.fw_addr.specs.Protocols.{proto}
 use Rattle.fw_load.specs.Fields.{◌>>=◌, field, known, list_in}
-use Rattle.fw_load.specs.Values.{entry, family_names, format, forward, kind_names, log_denied_names, or_fault, policy_target_names, port, rich, source, text, text_by, truth, unless_empty, whole, zone_target_names}
+use Rattle.fw_load.specs.Values.{entry, family_names, format, forward, kind_names, log_denied_names, network, or_fault, policy_target_names, port, protocol, rich, source, text, text_by, truth, unless_empty, whole, zone_target_names}
 use Rattle.fw_load.specs.declared.rules.Admission.{Admission}
 use Rattle.fw_model.specs.declared.config.Config.{Config}
 use Rattle.fw_model.specs.declared.forward.Forward.{Forward}
@@ -33,7 +31,7 @@ unfoldable pub admitted : Data → Result Admission (List ℕ)
 admitted value = do
   services ← field (list_in text) (codes "services") value
   ports ← field (list_in port) (codes "ports") value
-  protocols ← field (list_in (text_by proto)) (codes "protocols") value
+  protocols ← field (list_in (text_by protocol)) (codes "protocols") value
   source_ports ← field (list_in port) (codes "source_ports") value
   icmp_blocks ← field (list_in text) (codes "icmp_blocks") value
   Ok (record { services = services; ports = ports; protocols = protocols; source_ports = source_ports; icmp_blocks = icmp_blocks })
@@ -121,10 +119,10 @@ service value = do
   name ← field text (codes "name") value
   includes ← field (list_in text) (codes "includes") value
   ports ← field (list_in port) (codes "ports") value
-  protocols ← field (list_in (text_by proto)) (codes "protocols") value
+  protocols ← field (list_in (text_by protocol)) (codes "protocols") value
   source_ports ← field (list_in port) (codes "source_ports") value
-  v4 ← field (text_by (unless_empty net)) (codes "destination_v4") value
-  v6 ← field (text_by (unless_empty net)) (codes "destination_v6") value
+  v4 ← field (text_by (unless_empty network)) (codes "destination_v4") value
+  v6 ← field (text_by (unless_empty network)) (codes "destination_v6") value
   Ok (record { name = name; includes = includes; ports = ports; protocols = protocols; source_ports = source_ports; v4 = v4; v6 = v6 })
 
 abbrev pub ipset_keys : List (List ℕ)

@@ -1,15 +1,16 @@
 -- What JSON values say of single values of the permanent settings, by the grammars of their texts (firewalld.zone(5),
 -- firewalld.policy(5), firewalld.richlanguage(5), firewalld.ipset(5), firewalld.conf(5)). Texts needn't be canonical.
-use Rattle.std.specs.Prelude.{ℕ, ◌^◌, nat_lt, ℤ, pos, negsuc, Bool, List, [], ◌∷◌, Option, None, Some, option_map, option_and_then, option_or, Result, Ok, Err, codes, if◌then◌else◌}
-use Rattle.std.specs.Option.{ok_or}
+use Rattle.std.specs.Prelude.{ℕ, ◌^◌, ◌==◌, nat_lt, ℤ, pos, negsuc, Bool, List, [], ◌∷◌, Option, None, Some, option_map, option_and_then, Result, Ok, Err, codes, if◌then◌else◌}
+use Rattle.std.specs.Option.{ok_or, option_or}
 use Rattle.std.specs.Result.{result_ok}
 use Rattle.fw_addr.specs.Addresses.{address}
 use Rattle.fw_addr.specs.Hardware.{mac}
 use Rattle.fw_addr.specs.Nets.{net}
 use Rattle.fw_addr.specs.Ports.{port as port_number, port_range}
-use Rattle.fw_addr.specs.Protocols.{port_proto}
+use Rattle.fw_addr.specs.Protocols.{port_proto, proto}
 use Rattle.fw_addr.specs.Subnets.{Subnet}
 use Rattle.fw_addr.specs.WellFormed.{is_name}
+use Rattle.fw_addr.specs.declared.addr.Addr.{Addr}
 use Rattle.fw_addr.specs.declared.packet.Family.{Family}
 use Rattle.fw_addr.specs.declared.packet.Family.TheVariants.{V4, V6}
 use Rattle.fw_model.specs.declared.binding.Binding.{Binding}
@@ -57,7 +58,7 @@ abbrev pub whole : Data → Result ℤ (List ℕ)
 whole value = or_fault (option_and_then within_i32 (option_and_then as_i64 (as_number value)))
 
 abbrev pub is_one : ℕ → Option (Unit {0})
-is_one n = if nat_lt 0 n then (if nat_lt n 2 then Some tt else None) else None
+is_one n = if n == 1 then Some tt else None
 
 -- the number of the format
 abbrev pub format : Data → Result (Unit {0}) (List ℕ)
@@ -84,6 +85,19 @@ kind_names = (codes "hash:ip", kinds.Ip) ∷ (codes "hash:net", kinds.Net) ∷ (
 abbrev pub family_names : List (List ℕ × Family)
 family_names = (codes "inet", V4) ∷ (codes "inet6", V6) ∷ []
 
+-- texts of addresses and protocols
+unfoldable pub network : List ℕ → Option Subnet
+network text = net text
+
+unfoldable pub hardware : List ℕ → Option ℕ
+hardware text = mac text
+
+unfoldable pub host : List ℕ → Option Addr
+host text = address text
+
+unfoldable pub protocol : List ℕ → Option ℕ
+protocol text = proto text
+
 -- a rule of the rich language
 abbrev pub rich : List ℕ → Option Rich
 rich rule = result_ok (rich_text rule)
@@ -93,7 +107,7 @@ named_set name = if is_name name then Some (bindings.Set name) else None
 
 -- a net or a hardware address
 abbrev pub net_or_mac : {T : Type 0} → (Subnet → T) → (ℕ → T) → List ℕ → Option T
-net_or_mac of_net of_mac address = option_or (option_map of_net (net address)) (option_map of_mac (mac address))
+net_or_mac of_net of_mac text = option_or (option_map of_net (network text)) (option_map of_mac (hardware text))
 
 abbrev pub source_from : List ℕ → (name : Option (List ℕ)) → Option Binding
 source_from address (Some name) = named_set name
@@ -134,7 +148,7 @@ unfoldable pub forward_of : (range proto to_port to_addr : Data) → Option Forw
 forward_of range proto to_port to_addr = do
   port ← port_of range proto
   to_port ← option_and_then (unless_empty port_number) (as_str to_port)
-  to_addr ← option_and_then (unless_empty address) (as_str to_addr)
+  to_addr ← option_and_then (unless_empty host) (as_str to_addr)
   Some (record { port = port; to_port = to_port; to_addr = to_addr })
 
 -- an array of these four

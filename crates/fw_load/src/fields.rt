@@ -27,7 +27,7 @@ pub fn field<T: Told>(alloc: Global, key: &str, value: &Value) -> Result<T, Stop
 
 /// A value that may be missing.
 fn found_by<T: Told>(alloc: Global, value: Option<&Value>) -> Result<T, Stop>
-    ensures { Says result (found_by T.reading (option_map (λ v. view v.now) value)) }
+    ensures { Says result (found_by T.reading (option_map (λ v. view v.now) value.entry)) }
 {
     match value {
         Some(value) => T::read(alloc, value),
@@ -65,6 +65,7 @@ pub fn known(alloc: Global, keys: &[&str], value: &Value) -> Result<(), Stop>
 }
 
 /// The least key that only a table or an object has.
+#[tactic(auto, using(crate::proofs::Keys::entry_keys))]
 fn stray<'a>(keys: &[&'a str], members: &'a Map<String, Value>) -> Option<&'a str>
     ensures { option_copied result ≡ stray (texts keys.now) (keys_in (members_view members.now.entries)) }
 {
@@ -79,7 +80,11 @@ fn stray<'a>(keys: &[&'a str], members: &'a Map<String, Value>) -> Option<&'a st
             Ordering::Greater => return Some(key.as_str()),
         }
     }
-    keys.get(place).copied()
+    if place == keys.len() {
+        None
+    } else {
+        Some(keys[place])
+    }
 }
 
 impl<T: Told + Drop> Told for Seq<T> {

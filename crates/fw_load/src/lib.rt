@@ -10,6 +10,7 @@ mod objects;
 mod rules;
 mod single;
 mod stop;
+mod texts;
 mod told;
 
 pub use config::read_config;

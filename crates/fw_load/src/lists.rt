@@ -1,14 +1,14 @@
 //! Values that are told by arrays of a fixed length.
 ghost use Rattle.std.specs.Prelude.{◌≡◌, option_and_then};
-ghost use Rattle.fw_addr.specs.Addresses.{address};
 ghost use Rattle.fw_addr.specs.Ports.{port as port_number};
-ghost use Rattle.fw_load.specs.Values.{forward, forward_in, forward_of, port, port_in, port_of, unless_empty};
+ghost use Rattle.fw_load.specs.Values.{forward, forward_in, forward_of, host, port, port_in, port_of, unless_empty};
 ghost use Rattle.serde_json.specs.Find.{as_array};
 ghost use Rattle.serde_json.specs.View.{items_view, view};
 
 use crate::stop::{Stop, or_fault};
+use crate::texts::host;
 use crate::told::Told;
-use fw_addr::{Addr, read_addr, read_port_proto, read_ports};
+use fw_addr::{Addr, read_port_proto, read_ports};
 use fw_model::{Forward, Port};
 use fw_text::read_number;
 use serde_json::Value;
@@ -28,9 +28,11 @@ impl Told for Port {
 fn port_in(items: &[Value]) -> Option<Port>
     ensures { result ≡ port_in (items_view items.now) }
 {
-    match items {
-        [range, proto] => port_of(range, proto),
-        _ => None,
+    let (range, others) = items.split_first()?;
+    let (proto, others) = others.split_first()?;
+    match others.split_first() {
+        None => port_of(range, proto),
+        Some(_) => None,
     }
 }
 
@@ -60,9 +62,13 @@ impl Told for Forward {
 fn forward_in(items: &[Value]) -> Option<Forward>
     ensures { result ≡ forward_in (items_view items.now) }
 {
-    match items {
-        [range, proto, to_port, to_addr] => forward_of(range, proto, to_port, to_addr),
-        _ => None,
+    let (range, others) = items.split_first()?;
+    let (proto, others) = others.split_first()?;
+    let (to_port, others) = others.split_first()?;
+    let (to_addr, others) = others.split_first()?;
+    match others.split_first() {
+        None => forward_of(range, proto, to_port, to_addr),
+        Some(_) => None,
     }
 }
 
@@ -94,13 +100,10 @@ fn port_or_nothing(text: &str) -> Option<Option<u16>>
 
 /// An address, or nothing for the empty text.
 fn host_or_nothing(text: &str) -> Option<Option<Addr>>
-    ensures { result ≡ unless_empty address text.now }
+    ensures { result ≡ unless_empty host text.now }
 {
     if text.is_empty() {
         return Some(None);
     }
-    match read_addr(text) {
-        Ok(address) => Some(Some(address)),
-        Err(_) => None,
-    }
+    Some(Some(host(text)?))
 }

@@ -1,15 +1,14 @@
 //! Values that are told by one text, a truth or a number.
 ghost use Rattle.std.specs.Prelude.{◌≡◌, IfOk, option_and_then};
 ghost use Rattle.fw_addr.specs.Interfaces.{interface};
-ghost use Rattle.fw_addr.specs.Nets.{net};
-ghost use Rattle.fw_addr.specs.Protocols.{proto};
-ghost use Rattle.fw_load.specs.Values.{entry, named_set, net_or_mac, rich, source, text, text_by, truth, unless_empty, whole, within_i32};
+ghost use Rattle.fw_load.specs.Values.{entry, named_set, net_or_mac, network, protocol, rich, source, text, text_by, truth, unless_empty, whole, within_i32};
 ghost use Rattle.fw_model.specs.declared.binding.Binding.TheVariants as bindings;
 ghost use Rattle.serde_json.specs.View.{view};
 
 use crate::stop::{Stop, here, or_fault};
+use crate::texts::{hardware, network, protocol};
 use crate::told::Told;
-use fw_addr::{Iface, Net, Proto, is_well_formed_name, read_iface, read_mac, read_net, read_proto};
+use fw_addr::{Iface, Net, Proto, is_well_formed_name, read_iface};
 use fw_base::{Memory, Text};
 use fw_model::{Binding, Item, Rich};
 use fw_rich::{RichError, read_rich};
@@ -60,15 +59,15 @@ impl Told for Iface {
 }
 
 impl Told for Proto {
-    ghost reading = { text_by proto };
+    ghost reading = { text_by protocol };
 
     fn read(alloc: Global, value: &Value) -> Result<Proto, Stop> {
-        or_fault(alloc, value.as_str().and_then(|text| read_proto(text).ok()))
+        or_fault(alloc, value.as_str().and_then(protocol))
     }
 }
 
 impl Told for Option<Net> {
-    ghost reading = { text_by (unless_empty net) };
+    ghost reading = { text_by (unless_empty network) };
 
     fn read(alloc: Global, value: &Value) -> Result<Option<Net>, Stop> {
         or_fault(alloc, value.as_str().and_then(net_or_nothing))
@@ -77,15 +76,12 @@ impl Told for Option<Net> {
 
 /// A net, or nothing for the empty text.
 fn net_or_nothing(text: &str) -> Option<Option<Net>>
-    ensures { result ≡ unless_empty net text.now }
+    ensures { result ≡ unless_empty network text.now }
 {
     if text.is_empty() {
         return Some(None);
     }
-    match read_net(text) {
-        Ok(net) => Some(Some(net)),
-        Err(_) => None,
-    }
+    Some(Some(network(text)?))
 }
 
 impl Told for Rich {
@@ -139,9 +135,9 @@ fn named_set(alloc: Global, name: &str) -> Result<Option<Binding>, Memory>
 fn address(text: &str) -> Option<Binding>
     ensures { result ≡ net_or_mac bindings.Net bindings.Mac text.now }
 {
-    match read_net(text) {
-        Ok(net) => Some(Binding::Net(net)),
-        Err(_) => Some(Binding::Mac(read_mac(text).ok()?)),
+    match network(text) {
+        Some(net) => Some(Binding::Net(net)),
+        None => Some(Binding::Mac(hardware(text)?)),
     }
 }
 
@@ -158,8 +154,8 @@ impl Told for Item {
 fn entry(text: &str) -> Option<Item>
     ensures { result ≡ entry text.now }
 {
-    match read_net(text) {
-        Ok(net) => Some(Item::Net(net)),
-        Err(_) => Some(Item::Mac(read_mac(text).ok()?)),
+    match network(text) {
+        Some(net) => Some(Item::Net(net)),
+        None => Some(Item::Mac(hardware(text)?)),
     }
 }
