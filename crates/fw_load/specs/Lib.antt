@@ -1,5 +1,3 @@
 pub mod Answers
-pub mod Endings
 pub mod Fields
-pub mod Objects
 pub mod Values

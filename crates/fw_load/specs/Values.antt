@@ -1,6 +1,6 @@
 -- What JSON values say of single values of the permanent settings, by the grammars of their texts (firewalld.zone(5),
 -- firewalld.policy(5), firewalld.richlanguage(5), firewalld.ipset(5), firewalld.conf(5)). Texts needn't be canonical.
-use Rattle.std.specs.Prelude.{ℕ, ◌^◌, ◌==◌, nat_lt, ℤ, pos, negsuc, Bool, List, [], ◌∷◌, Option, None, Some, option_map, option_and_then, Result, Ok, Err, codes, if◌then◌else◌}
+use Rattle.std.specs.Prelude.{ℕ, ◌^◌, nat_lt, ℤ, pos, negsuc, Bool, List, [], ◌∷◌, Option, None, Some, option_map, option_and_then, Result, codes, if◌then◌else◌}
 use Rattle.std.specs.Option.{ok_or, option_or}
 use Rattle.std.specs.Result.{result_ok}
 use Rattle.fw_addr.specs.Addresses.{address}
@@ -29,11 +29,10 @@ use Rattle.fw_model.specs.declared.rich.Rich.{Rich}
 use Rattle.fw_model.specs.declared.zone.ZoneTarget.{ZoneTarget}
 use Rattle.fw_model.specs.declared.zone.ZoneTarget.TheVariants as zones
 use Rattle.fw_rich.specs.Rich.{rich_text}
-use Rattle.fw_text.specs.Names.{named}
 use Rattle.fw_text.specs.Steps.{◌>>=◌}
 use Rattle.fw_words.specs.Keys.{after_key}
 use Rattle.serde_json.specs.Data.{Data, Items, item, no_items}
-use Rattle.serde_json.specs.Find.{as_array, as_bool, as_i64, as_number, as_str, as_u64}
+use Rattle.serde_json.specs.Find.{as_array, as_bool, as_i64, as_number, as_str}
 
 -- what an option gives, or a fault of the value itself
 abbrev pub or_fault : {T : Type 0} → Option T → Result T (List ℕ)
@@ -56,13 +55,6 @@ within_i32 (negsuc n) = if nat_lt n (2 ^ 31) then Some (negsuc n) else None
 
 abbrev pub whole : Data → Result ℤ (List ℕ)
 whole value = or_fault (option_and_then within_i32 (option_and_then as_i64 (as_number value)))
-
-abbrev pub is_one : ℕ → Option (Unit {0})
-is_one n = if n == 1 then Some tt else None
-
--- the number of the format
-abbrev pub format : Data → Result (Unit {0}) (List ℕ)
-format value = or_fault (option_and_then is_one (option_and_then as_u64 (as_number value)))
 
 abbrev pub log_denied_names : List (List ℕ × LogDenied)
 log_denied_names =
