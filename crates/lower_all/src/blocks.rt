@@ -1,4 +1,7 @@
 //! The chains of the settings of zones and policies, each once, where a rule jumps to them.
+ghost use Rattle.std.specs.Prelude.{◌≡◌, ◌++◌, OnOk};
+ghost use Rattle.lower_all.specs.Extending.{Extends};
+
 use fw_base::{Memory, Seq, Text};
 use fw_model::{Policy, Runtime, Zone};
 use fw_verdict::{End, stands_for};
@@ -9,7 +12,9 @@ use nf_rules::Chain;
 use std::alloc::Global;
 
 /// Appends some chains.
-pub fn push_block(block: Seq<Chain>, chains: &mut Seq<Chain>) -> Result<(), Memory> {
+pub fn push_block(block: Seq<Chain>, chains: &mut Seq<Chain>) -> Result<(), Memory>
+    ensures { OnOk result (chains.new ≡ chains.old ++ block) }
+{
     for chain in block.into_vec() {
         chains.push(chain)?;
     }
@@ -17,7 +22,10 @@ pub fn push_block(block: Seq<Chain>, chains: &mut Seq<Chain>) -> Result<(), Memo
 }
 
 /// Appends the chains of the zones that packets may come from and that have settings.
-pub fn push_zones(alloc: Global, runtime: &Runtime, chains: &mut Seq<Chain>) -> Result<(), Memory> {
+#[tactic(auto, using(crate::proofs::Extended::extends_more))]
+fn push_zones(alloc: Global, runtime: &Runtime, chains: &mut Seq<Chain>) -> Result<(), Memory>
+    ensures { OnOk result (Extends chains.old chains.new) }
+{
     let zones = runtime.config.zones.as_slice();
     for place in 0..zones.len() {
         let zone = &zones[place];
@@ -44,12 +52,15 @@ fn is_needed(policy: &Policy, zones: &[&Zone]) -> bool {
 }
 
 /// Appends the chains of the policies that packets may meet and that have settings.
-pub fn push_policies(
+#[tactic(auto, using(crate::proofs::Extended::extends_more))]
+fn push_policies(
     alloc: Global,
     runtime: &Runtime,
     zones: &[&Zone],
     chains: &mut Seq<Chain>,
-) -> Result<(), Memory> {
+) -> Result<(), Memory>
+    ensures { OnOk result (Extends chains.old chains.new) }
+{
     let policies = runtime.config.policies.as_slice();
     for place in 0..policies.len() {
         if is_needed(&policies[place], zones) {
@@ -57,4 +68,18 @@ pub fn push_policies(
         }
     }
     Ok(())
+}
+
+/// Appends the chains of the settings that packets of these zones may meet.
+#[tactic(auto, using(crate::proofs::Extended::extends_both))]
+pub fn push_settings(
+    alloc: Global,
+    runtime: &Runtime,
+    zones: &[&Zone],
+    chains: &mut Seq<Chain>,
+) -> Result<(), Memory>
+    ensures { OnOk result (Extends chains.old chains.new) }
+{
+    push_zones(alloc, runtime, chains)?;
+    push_policies(alloc, runtime, zones, chains)
 }

@@ -1,7 +1,8 @@
 //! The compiler.
 ghost use Rattle.std.specs.Prelude.{◌≡◌, [], IfOk};
+ghost use Rattle.lower_all.specs.Joined.{AreJoined, AreSetsOf};
 
-use crate::blocks::{push_block, push_policies, push_zones};
+use crate::blocks::{push_block, push_settings};
 use crate::sets::sets_of;
 use crate::zones::used_zones;
 use fw_base::{Memory, Seq};
@@ -16,20 +17,27 @@ use std::alloc::Global;
 /// (`lower_zone`). That all of them stand side by side, so that the ruleset is sound and does what the settings say, isn't proved yet.
 pub struct Nft;
 
-/// All chains, in order of their names.
-fn chains_of(alloc: Global, runtime: &Runtime) -> Result<Seq<Chain>, Memory> {
+/// The chains of the hooks, in which packets of these zones go, and those of settings.
+fn listed(alloc: Global, runtime: &Runtime) -> Result<Seq<Chain>, Memory>
+    ensures { IfOk result (AreJoined runtime.now.config) }
+{
     let config = &runtime.config;
     let used = used_zones(alloc, config)?;
     let zones = used.as_slice();
-    let mut chains = Seq::new(alloc);
-    push_block(input_chains(alloc, config, zones)?, &mut chains)?;
+    let mut chains = input_chains(alloc, config, zones)?;
     push_block(forward_chains(alloc, config, zones)?, &mut chains)?;
     push_block(output_chains(alloc, config, zones)?, &mut chains)?;
-    push_zones(alloc, runtime, &mut chains)?;
-    push_policies(alloc, runtime, zones, &mut chains)?;
-    let mut ordered = chains.into_vec();
-    ordered.sort_by(|one, other| one.name.as_str().cmp(&other.name.as_str()))?;
-    Ok(Seq::from_vec(ordered))
+    push_settings(alloc, runtime, zones, &mut chains)?;
+    Ok(chains)
+}
+
+/// All chains, in order of their names.
+fn chains_of(alloc: Global, runtime: &Runtime) -> Result<Seq<Chain>, Memory>
+    ensures { IfOk result (AreJoined runtime.now.config) }
+{
+    let mut chains = listed(alloc, runtime)?.into_vec();
+    chains.sort_by(|one, other| one.name.as_str().cmp(&other.name.as_str()))?;
+    Ok(Seq::from_vec(chains))
 }
 
 impl Nft {
@@ -38,6 +46,8 @@ impl Nft {
     ///
     /// Refuses for want of memory alone.
     pub fn compile(&self, alloc: Global, runtime: &Runtime) -> Result<Ruleset, Memory>
+        ensures chains { IfOk result (λ rules. AreJoined runtime.now.config rules.chains) }
+        ensures sets { IfOk result (λ rules. AreSetsOf runtime.now.config rules.sets) }
         ensures no_map { IfOk result (λ rules. rules.maps ≡ []) }
     {
         Ok(Ruleset {

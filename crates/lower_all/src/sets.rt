@@ -1,11 +1,19 @@
 //! The sets of a configuration as sets of nft(8).
+ghost use Rattle.std.specs.Prelude.{◌≡◌, IfOk, IsPermutation, map};
+ghost use Rattle.std.specs.List.{flat_map};
+ghost use Rattle.lower_all.specs.Joined.{kept, mac_of, net_of, set_of};
+ghost use Rattle.lower_match.specs.Lowers.{set_name};
+ghost use Rattle.nf_rules.specs.declared.set.SetBody.TheVariants as body;
+
 use fw_base::{Memory, Seq, Text};
 use fw_model::{IpSet, Item, SetKind};
 use nf_rules::{NfSet, SetBody};
 use std::alloc::Global;
 
 /// The entries that the firewall keeps: none where they come with a timeout.
-fn kept(set: &IpSet) -> &[Item] {
+fn kept(set: &IpSet) -> &[Item]
+    ensures { result.now ≡ kept set.now }
+{
     if set.timeout {
         &[]
     } else {
@@ -13,7 +21,9 @@ fn kept(set: &IpSet) -> &[Item] {
     }
 }
 
-fn nets(alloc: Global, items: &[Item]) -> Result<SetBody, Memory> {
+fn nets(alloc: Global, items: &[Item]) -> Result<SetBody, Memory>
+    ensures { IfOk result (λ made. made ≡ body.Nets (flat_map net_of items.now)) }
+{
     let mut nets = Seq::new(alloc);
     for item in items {
         if let Item::Net(net) = item {
@@ -23,7 +33,9 @@ fn nets(alloc: Global, items: &[Item]) -> Result<SetBody, Memory> {
     Ok(SetBody::Nets(nets))
 }
 
-fn macs(alloc: Global, items: &[Item]) -> Result<SetBody, Memory> {
+fn macs(alloc: Global, items: &[Item]) -> Result<SetBody, Memory>
+    ensures { IfOk result (λ made. made ≡ body.Macs (flat_map mac_of items.now)) }
+{
     let mut macs = Seq::new(alloc);
     for item in items {
         if let Item::Mac(mac) = item {
@@ -33,13 +45,17 @@ fn macs(alloc: Global, items: &[Item]) -> Result<SetBody, Memory> {
     Ok(SetBody::Macs(macs))
 }
 
-fn set_name(alloc: Global, name: &Text) -> Result<Text, Memory> {
+fn set_name(alloc: Global, name: &Text) -> Result<Text, Memory>
+    ensures { IfOk result (λ text. text ≡ set_name name.now) }
+{
     let string = format!(in alloc; "ipset_{name}")?;
     Ok(Text::from_string(string))
 }
 
 /// The set of an ipset, under `ipset_` and its name.
-fn set_of(alloc: Global, set: &IpSet) -> Result<NfSet, Memory> {
+fn set_of(alloc: Global, set: &IpSet) -> Result<NfSet, Memory>
+    ensures { IfOk result (λ made. made ≡ set_of set.now) }
+{
     let body = match set.kind {
         SetKind::Mac => macs(alloc, kept(set))?,
         SetKind::Ip => nets(alloc, kept(set))?,
@@ -51,12 +67,22 @@ fn set_of(alloc: Global, set: &IpSet) -> Result<NfSet, Memory> {
     })
 }
 
-/// The sets of ipsets, in order of their names.
-pub fn sets_of(alloc: Global, ipsets: &[IpSet]) -> Result<Seq<NfSet>, Memory> {
+/// The sets of ipsets, as these are listed.
+fn listed(alloc: Global, ipsets: &[IpSet]) -> Result<Vec<NfSet>, Memory>
+    ensures { IfOk result (λ sets. sets.items ≡ map set_of ipsets.now) }
+{
     let mut sets = Vec::new(alloc);
     for set in ipsets {
         sets.push(set_of(alloc, set)?)?;
     }
+    Ok(sets)
+}
+
+/// The sets of ipsets, in order of their names.
+pub fn sets_of(alloc: Global, ipsets: &[IpSet]) -> Result<Seq<NfSet>, Memory>
+    ensures { IfOk result (λ sets. IsPermutation (map set_of ipsets.now) sets) }
+{
+    let mut sets = listed(alloc, ipsets)?;
     sets.sort_by(|one, other| one.name.as_str().cmp(&other.name.as_str()))?;
     Ok(Seq::from_vec(sets))
 }

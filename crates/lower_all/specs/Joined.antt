@@ -1,0 +1,60 @@
+-- Of what the ruleset of a configuration consists.
+use Rattle.std.specs.Prelude.{◌≡◌, ℕ, Bool, true, false, if◌then◌else◌, List, [], ◌∷◌, ◌++◌, map, IsPermutation}
+use Rattle.std.specs.List.{filter, flat_map}
+use Rattle.fw_addr.specs.Subnets.{Subnet}
+use Rattle.fw_model.specs.declared.config.Config.{Config}
+use Rattle.fw_model.specs.declared.ipset.IpSet.{IpSet}
+use Rattle.fw_model.specs.declared.ipset.Item.{Item}
+use Rattle.fw_model.specs.declared.ipset.Item.TheVariants as item
+use Rattle.fw_model.specs.declared.ipset.SetKind.{SetKind}
+use Rattle.fw_model.specs.declared.ipset.SetKind.TheVariants as kind
+use Rattle.fw_model.specs.declared.zone.Zone.{Zone}
+use Rattle.lower_dispatch.specs.Uses.{is_in_use}
+use Rattle.lower_hooks.specs.Chains.{ForwardWorks, InputWorks, OutputWorks}
+use Rattle.lower_match.specs.Lowers.{set_name}
+use Rattle.nf_rules.specs.declared.chain.Chain.{Chain}
+use Rattle.nf_rules.specs.declared.set.NfSet.{NfSet}
+use Rattle.nf_rules.specs.declared.set.SetBody.{SetBody}
+use Rattle.nf_rules.specs.declared.set.SetBody.TheVariants as body
+
+-- the zones that packets may belong to
+abbrev pub used_zones : Config → List Zone
+used_zones config = filter (is_in_use config) config.zones
+
+-- The chains of the hooks, which do there what is done with packets on their way through the firewall, and others beside them, of settings.
+pub record AreJoined (config : Config) (chains : List Chain) : Type 0 where
+  pub inputs : List Chain
+  pub forwards : List Chain
+  pub outputs : List Chain
+  pub settings : List Chain
+  pub input : InputWorks config (used_zones config) inputs
+  pub forward : ForwardWorks config (used_zones config) forwards
+  pub output : OutputWorks config (used_zones config) outputs
+  pub all : IsPermutation (((inputs ++ forwards) ++ outputs) ++ settings) chains
+
+-- the entries that a set keeps: none where they come with a timeout (firewalld.ipset(5), `timeout`)
+abbrev pub kept : IpSet → List Item
+kept set = if set.timeout then [] else set.items
+
+-- nets among items, and hardware addresses
+abbrev pub net_of : Item → List Subnet
+net_of (item.Net net) = net ∷ []
+net_of (item.Mac address) = []
+
+abbrev pub mac_of : Item → List ℕ
+mac_of (item.Net net) = []
+mac_of (item.Mac address) = address ∷ []
+
+-- a set of hardware addresses by its kind, and else one of nets
+abbrev pub body_of : SetKind → List Item → SetBody
+body_of kind.Ip items = body.Nets (flat_map net_of items)
+body_of kind.Net items = body.Nets (flat_map net_of items)
+body_of kind.Mac items = body.Macs (flat_map mac_of items)
+
+-- the set of nft(8) that stands for an ipset
+abbrev pub set_of : IpSet → NfSet
+set_of set = record { name = set_name set.name; body = body_of set.kind (kept set) }
+
+-- one for each ipset
+abbrev pub AreSetsOf : Config → List NfSet → Type 0
+AreSetsOf config sets = IsPermutation (map set_of config.ipsets) sets
