@@ -1,5 +1,5 @@
 //! The compiler.
-ghost use Rattle.std.specs.Prelude.{◌≡◌, [], IfOk};
+ghost use Rattle.std.specs.Prelude.{◌≡◌, [], IfOk, IsPermutation};
 ghost use Rattle.lower_all.specs.Joined.{AreJoined, AreSetsOf};
 
 use crate::blocks::{push_block, push_settings};
@@ -13,8 +13,8 @@ use std::alloc::Global;
 
 /// The compiler of settings to rulesets of nft(8).
 ///
-/// What the chains of each hook do in a ruleset in which they stand is proved (`lower_hooks`), and so is what those of settings do
-/// (`lower_zone`). That all of them stand side by side, so that the ruleset is sound and does what the settings say, isn't proved yet.
+/// That the chains of the hooks are in its rulesets is proved (`AreJoined`), and so is what they do in a ruleset in which they stand
+/// (`lower_hooks`). That all chains stand side by side, so that the ruleset is sound and does what the settings say, isn't proved yet.
 pub struct Nft;
 
 /// The chains of the hooks, in which packets of these zones go, and those of settings.
@@ -31,13 +31,22 @@ fn listed(alloc: Global, runtime: &Runtime) -> Result<Seq<Chain>, Memory>
     Ok(chains)
 }
 
+/// Chains in order of their names.
+fn by_name(chains: Seq<Chain>) -> Result<Seq<Chain>, Memory>
+    ensures { IfOk result (λ ordered. IsPermutation chains ordered) }
+{
+    let mut ordered = chains.into_vec();
+    ordered.sort_by(|one, other| one.name.as_str().cmp(&other.name.as_str()))?;
+    Ok(Seq::from_vec(ordered))
+}
+
 /// All chains, in order of their names.
+#[tactic(auto, using(crate::proofs::Extended::joined_again))]
 fn chains_of(alloc: Global, runtime: &Runtime) -> Result<Seq<Chain>, Memory>
     ensures { IfOk result (AreJoined runtime.now.config) }
 {
-    let mut chains = listed(alloc, runtime)?.into_vec();
-    chains.sort_by(|one, other| one.name.as_str().cmp(&other.name.as_str()))?;
-    Ok(Seq::from_vec(chains))
+    let chains = listed(alloc, runtime)?;
+    Ok(by_name(chains)?)
 }
 
 impl Nft {
