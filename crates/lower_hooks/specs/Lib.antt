@@ -1,5 +1,6 @@
 pub mod Chains
 pub mod Laws
+pub mod Leads
 pub mod Names
 pub mod Rules
 pub mod Settings
