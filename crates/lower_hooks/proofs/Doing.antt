@@ -1,5 +1,5 @@
 -- What the rules of the chains of zones do.
-use Rattle.std.proofs.Common.{◌≡◌, ◌∙◌, ℕ, Bool, true, false, List, [], ◌∷◌, ◌++◌, Option, None, Some, inl, inr, refl, sym, subst}
+use Rattle.std.proofs.Common.{◌≡◌, ℕ, Bool, true, false, List, [], ◌∷◌, Option, None, Some, inl, inr, refl, sym, subst}
 use Rattle.std.specs.Prelude.{if◌then◌else◌}
 use Rattle.std.specs.List.{flat_map}
 use Rattle.fw_addr.specs.declared.reject.RejectType.TheVariants.{IcmpxAdminProhibited}
@@ -20,7 +20,7 @@ use Rattle.fw_verdict.specs.declared.policies.Stage.TheVariants as stage
 use Rattle.lower_hooks.specs.Listed.{decided_rules, forward_rules, input_rules, jump_where, output_rules, policy_jump, policy_rules, rules_at, target_rules, within_rules, zone_jump}
 use Rattle.lower_hooks.specs.Rules.{always}
 use Rattle.lower_hooks.specs.Settings.{has_settings, has_walk}
-use Rattle.lower_hooks.specs.Work.{DoIn, JumpDoes, PoliciesStand, PolicyStands, ZoneStands}
+use Rattle.lower_hooks.specs.Work.{DoIn, JumpDoes, PoliciesStand, PolicyStands}
 use Rattle.lower_hooks.specs.Zones.{ForwardStands, InputStands, OutputStands, host_to_zone, zone_to_host, zone_to_zone}
 use Rattle.lower_hooks.proofs.Deciding.{always_does, default_does, forwarded_can, target_can}
 use Rattle.lower_hooks.proofs.Idle.{idle, idle_zone}
@@ -29,7 +29,6 @@ use Rattle.lower_zone.proofs.Sequences.{nothing_done}
 use Rattle.lower_zone.specs.Names.{block_name, policy_block, zone_block}
 use Rattle.lower_zone.specs.Verdicts.{can_decide}
 use Rattle.lower_zone.specs.Work.{Do}
-use Rattle.nf_rules.specs.declared.rule.Rule.{Rule}
 use Rattle.nf_rules.specs.declared.ruleset.Ruleset.{Ruleset}
 
 module _ (config : Config) where

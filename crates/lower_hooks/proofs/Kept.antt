@@ -1,5 +1,5 @@
 -- Chains that were added, and those that are still there.
-use Rattle.std.proofs.Common.{◌≡◌, ◌∙◌, ◌⊎◌, inl, inr, ℕ, ◌+◌, ◌<◌, List, [], ◌∷◌, ◌++◌, length, map, take, get_or, None, refl, sym, ap, subst, Bor}
+use Rattle.std.proofs.Common.{◌≡◌, ◌∙◌, ◌⊎◌, inl, inr, ℕ, ◌+◌, ◌<◌, List, [], ◌∷◌, ◌++◌, length, take, get_or, None, refl, sym, ap, subst, Bor}
 use Rattle.fw_model.specs.declared.config.Config.{Config}
 use Rattle.fw_model.specs.declared.packet.Packet.{Packet}
 use Rattle.fw_model.specs.declared.zone.Zone.{Zone}
@@ -9,7 +9,8 @@ use Rattle.fw_zone.specs.Lists.{IsIn}
 use Rattle.lower_hooks.specs.Chains.{Grows, HasChain, HasPairs, IsOnlyBase, base_chain}
 use Rattle.lower_hooks.specs.Leads.{HasLeads, Leads, PairsLead}
 use Rattle.lower_hooks.specs.Work.{DoIn}
-use Rattle.lower_hooks.proofs.Lists.{in_either, in_first, in_second, lent_more}
+use Rattle.lower_hooks.proofs.Lists.{in_either, lent_more}
+use Rattle.lower_zone.proofs.Built.{in_first, in_second}
 use Rattle.lower_zone.specs.Forms.{chain_named}
 use Rattle.nf_rules.specs.declared.chain.Chain.{Chain}
 use Rattle.nf_rules.specs.declared.chain.Hook.{Hook}

@@ -1,5 +1,5 @@
 -- Where rules lead, as they are put together.
-use Rattle.std.proofs.Common.{◌≡◌, ◌∙◌, ◌⊎◌, inl, inr, ℕ, Bool, true, false, ◌&&◌, List, [], ◌∷◌, ◌++◌, Option, None, Some, refl, sym, ap, subst}
+use Rattle.std.proofs.Common.{◌≡◌, ◌⊎◌, inl, inr, ℕ, Bool, true, false, ◌&&◌, List, [], ◌∷◌, ◌++◌, Option, None, Some, refl, subst}
 use Rattle.std.proofs.lemmas.Grind.{flat_map-append}
 use Rattle.std.specs.Prelude.{codes, if◌then◌else◌, is_some}
 use Rattle.std.specs.List.{flat_map, list_all}
@@ -28,7 +28,7 @@ use Rattle.lower_hooks.specs.Rules.{always, default_rules, early_rules, known_ru
 use Rattle.lower_hooks.specs.Settings.{has_settings, has_walk}
 use Rattle.lower_match.specs.Stands.{Stand}
 use Rattle.lower_zone.proofs.Built.{AreLeaves, all_joined, both, leaves_decision}
-use Rattle.lower_zone.specs.Forms.{is, jump_to}
+use Rattle.lower_zone.specs.Forms.{is}
 use Rattle.lower_zone.specs.Names.{block_name, policy_block, zone_block}
 use Rattle.nf_chains.specs.Condition.{is_plain}
 use Rattle.nf_rules.specs.declared.chain.Chain.{Chain}

@@ -25,15 +25,6 @@ added_more f xs at x first before behind below is so_far this =
     ∙ flat_map_more f first (lent (take at xs)) x.now
     ∙ ap (λ list. first ++ flat_map f list) (sym (lent_more xs at x below is))
 
-pub in_first : {A : Type 0} (item : A) (one other : List A) → IsIn item one → IsIn item (one ++ other)
-in_first item [] other there = absurd there
-in_first item (first ∷ others) other (inl same) = inl same
-in_first item (first ∷ others) other (inr there) = inr (in_first item others other there)
-
-pub in_second : {A : Type 0} (item : A) (one other : List A) → IsIn item other → IsIn item (one ++ other)
-in_second item [] other there = there
-in_second item (first ∷ others) other there = inr (in_second item others other there)
-
 -- what stands in a list and one item more
 pub in_either : {A : Type 0} (item last : A) (list : List A) → IsIn item (list ++ last ∷ []) → IsIn item list ⊎ (last ≡ item)
 in_either item last [] (inl same) = inr same

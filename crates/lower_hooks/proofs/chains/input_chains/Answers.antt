@@ -1,4 +1,4 @@
-use Rattle.std.proofs.Common.{◌++◌, ◌≡◌, ◌∙◌, ◌∷◌, [], List, ap}
+use Rattle.std.proofs.Common.{◌++◌, ◌∙◌, ◌∷◌, [], List, ap}
 use Rattle.fw_order.specs.Borrowed.{lent}
 use Rattle.lower_hooks.specs.Chains.{base_chain}
 use Rattle.lower_hooks.specs.Names.{input_start, names_of, zone_names}

@@ -1,4 +1,4 @@
-use Rattle.std.proofs.Common.{append_assoc, ◌≡◌, ◌∙◌, ◌++◌, ◌∷◌, [], List, ℕ, sym, ap, subst}
+use Rattle.std.proofs.Common.{append_assoc, ◌≡◌, ◌∙◌, ◌++◌, ◌∷◌, [], List, ℕ, ap, subst}
 use Rattle.lower_dispatch.specs.Dispatch.{Dispatches}
 use Rattle.lower_dispatch.specs.declared.direction.Direction.TheVariants as direction
 use Rattle.fw_zone.specs.Lists.{IsIn}

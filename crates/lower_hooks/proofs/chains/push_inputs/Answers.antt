@@ -1,4 +1,4 @@
-use Rattle.std.proofs.Common.{append-nil, ◌≡◌, ◌∙◌, ◌++◌, List, take, sym, ap, subst, Bor}
+use Rattle.std.proofs.Common.{append-nil, ◌∙◌, ◌++◌, List, sym, ap, subst, Bor}
 use Rattle.std.proofs.lemmas.List.{take_all}
 use Rattle.fw_model.specs.declared.zone.Zone.{Zone}
 use Rattle.fw_order.specs.Borrowed.{lent}
