@@ -1,3 +1,4 @@
+pub mod Compiled
 pub mod Extending
 pub mod Joined
 pub mod Ordered
