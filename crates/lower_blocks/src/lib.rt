@@ -1,0 +1,7 @@
+//! The chains of the settings of zones and policies that packets may meet, each once, where a rule jumps to them.
+#![tactic(auto)]
+
+mod laws;
+mod needed;
+
+pub use laws::acting_policies_are_told;
