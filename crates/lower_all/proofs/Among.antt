@@ -53,12 +53,14 @@ pub of_filter : {A : Type 0} (P : A → Type 0) (asked : A → Bool) (items : Li
     → ((item : A) → IsIn item items → asked item ≡ true → P item)
     → (item : A) → IsIn item (filter asked items) → P item
 of_filter P asked [] holds item there = absurd there
-of_filter {A = A} P asked (first ∷ others) holds item there = either (asked first) refl there
+of_filter {A = A} P asked (first ∷ others) holds item there =
+    either (asked first) refl there (of_filter P asked others (λ it among. holds it (inr among)) item)
   where
-    either : (hit : Bool) → asked first ≡ hit → IsIn item (if hit then first ∷ filter asked others else filter asked others) → P item
-    either true is (inl same) = holds item (inl same) (sym (ap asked same) ∙ is)
-    either true is (inr there) = of_filter P asked others (λ it among. holds it (inr among)) item there
-    either false is there = of_filter P asked others (λ it among. holds it (inr among)) item there
+    either : (hit : Bool) → asked first ≡ hit → IsIn item (if hit then first ∷ filter asked others else filter asked others)
+        → (IsIn item (filter asked others) → P item) → P item
+    either true is (inl same) rest = holds item (inl same) (sym (ap asked same) ∙ is)
+    either true is (inr there) rest = rest there
+    either false is there rest = rest there
 
 pub all_of_each : {A : Type 0} (asked : A → Bool) (items : List A) → ((item : A) → IsIn item items → asked item ≡ true) → list_all asked items ≡ true
 all_of_each asked [] each = refl

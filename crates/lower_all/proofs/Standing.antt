@@ -52,6 +52,10 @@ record Holds (rules : Ruleset) (most : ℕ) (chain : Chain) : Type 0 where
   stand : list_all (rule_stands rules) chain.rules ≡ true
   short : Within rules most chain.name
 
+-- the chain of a name is such
+abbrev Named : Ruleset → Chain → List ℕ → Type 0
+Named rules chain name = name ≡ chain.name → Holds rules 5 chain
+
 -- from a chain one link more than behind its rules
 within_more : (rules : Ruleset) (most : ℕ) (name : List ℕ) (chain : Chain)
     → chain_of rules.chains name ≡ Some chain
@@ -158,7 +162,7 @@ module _ (config : Config) (rules : Ruleset) (parts : HasParts config rules) whe
       where
         of_zones : IsIn chain.name (zone_names input_start (used_zones config)) → Holds rules 5 chain
         of_zones there =
-            of_map (λ (name : List ℕ). name ≡ chain.name → Holds rules 5 chain) (λ (zone : Zone). input_start ++ zone.name) (used_zones config)
+            of_map (Named rules chain) (λ (zone : Zone). input_start ++ zone.name) (used_zones config)
             (λ zone is same.
                 let has = parts.joined.input_leads.zone zone is in
                 known 5 (chain_named (input_start ++ zone.name) has.rules) chain (in_inputs config rules parts _ has.there) (in_inputs config rules parts chain among)
@@ -196,7 +200,7 @@ module _ (config : Config) (rules : Ruleset) (parts : HasParts config rules) whe
       where
         of_zones : IsIn chain.name (zone_names output_start (used_zones config)) → Holds rules 5 chain
         of_zones there =
-            of_map (λ (name : List ℕ). name ≡ chain.name → Holds rules 5 chain) (λ (zone : Zone). output_start ++ zone.name) (used_zones config)
+            of_map (Named rules chain) (λ (zone : Zone). output_start ++ zone.name) (used_zones config)
             (λ zone is same.
                 let has = parts.joined.output_leads.zone zone is in
                 known 5 (chain_named (output_start ++ zone.name) has.rules) chain (in_outputs config rules parts _ has.there) (in_outputs config rules parts chain among)
@@ -246,19 +250,16 @@ module _ (config : Config) (rules : Ruleset) (parts : HasParts config rules) whe
         by (subst (λ (names : List (List ℕ)). IsIn chain.name names) parts.joined.forward_names
         (in_map (λ (one : Chain). one.name) chain parts.joined.forwards among))
       where
-        abbrev Named : List ℕ → Type 0
-        Named name = name ≡ chain.name → Holds rules 5 chain
-
-        of_pairs : (from : Zone) → IsIn from (used_zones config) → (name : List ℕ) → IsIn name (zone_names (pair_start from.name) (used_zones config)) → Named name
+        of_pairs : (from : Zone) → IsIn from (used_zones config) → (name : List ℕ) → IsIn name (zone_names (pair_start from.name) (used_zones config)) → Named rules chain name
         of_pairs from is_from name there =
-            of_map Named (λ (zone : Zone). pair_start from.name ++ zone.name) (used_zones config)
+            of_map (Named rules chain) (λ (zone : Zone). pair_start from.name ++ zone.name) (used_zones config)
             (λ zone is same.
                 let has = parts.joined.forward_leads.pair from zone is_from is in
                 known 5 (chain_named (pair_start from.name ++ zone.name) has.rules) chain (in_forwards config rules parts _ has.there) (in_forwards config rules parts chain among)
                 (holds_more rules 3 5 _ (omega arith) (pair_holds from zone is_from is)) same)
             name there
 
-        of_from : (from : Zone) → IsIn from (used_zones config) → (name : List ℕ) → IsIn name (from_names (used_zones config) from) → Named name
+        of_from : (from : Zone) → IsIn from (used_zones config) → (name : List ℕ) → IsIn name (from_names (used_zones config) from) → Named rules chain name
         of_from from is_from name (inl first) same =
             let has = parts.joined.forward_leads.from from is_from in
             known 5 (chain_named (forward_start ++ from.name) has.rules) chain (in_forwards config rules parts _ has.there) (in_forwards config rules parts chain among)
@@ -271,7 +272,7 @@ module _ (config : Config) (rules : Ruleset) (parts : HasParts config rules) whe
             known 5 (base_chain (codes "filter_FORWARD") hook.Forward base.rules) chain (in_forwards config rules parts _ base.there) (in_forwards config rules parts chain among)
             (leads_on (IsChainName config forward_start) 4 (base_chain (codes "filter_FORWARD") hook.Forward base.rules) (in_forwards config rules parts _ base.there) base.leads forward_zones)
             same
-        by (inr there) = of_flat_map Named (from_names (used_zones config)) (used_zones config) of_from chain.name there refl
+        by (inr there) = of_flat_map (Named rules chain) (from_names (used_zones config)) (used_zones config) of_from chain.name there refl
 
     -- all chains
     each_holds : (chain : Chain) → IsIn chain rules.chains → Holds rules 5 chain
