@@ -19,19 +19,25 @@ pub fn is_told(config: &Config, zone: &Zone) -> bool
     is_in_use(config, zone) && has_walk(zone)
 }
 
+/// Whether a side of a policy stands for a zone.
+fn stands_for_zone(side: &[Text], zone: &Zone) -> bool
+    ensures { result ≡ stands_for side.now (in_zone (Some zone.now)) }
+{
+    stands_for(side, End::Zone(Some(zone)))
+}
+
+/// Whether a side of a policy stands for one of these zones.
+fn stands_for_one(side: &[Text], zones: &[&Zone]) -> bool
+    ensures { result ≡ list_any (λ zone. stands_for side.now (in_zone (Some zone.now))) zones.now }
+{
+    zones.iter().any(|zone| stands_for_zone(side, *zone))
+}
+
 /// Whether a side of a policy stands for the host or for one of these zones.
 fn stands_for_any(side: &[Text], zones: &[&Zone]) -> bool
     ensures { result ≡ stands_for_any side.now (lent zones.now) }
 {
-    stands_for(side, End::Host) || stands_for_zone(side, zones)
-}
-
-fn stands_for_zone(side: &[Text], zones: &[&Zone]) -> bool
-    ensures { result ≡ list_any (λ zone. stands_for side.now (in_zone (Some zone))) (lent zones.now) }
-{
-    zones
-        .iter()
-        .any(|zone| stands_for(side, End::Zone(Some(*zone))))
+    stands_for(side, End::Host) || stands_for_one(side, zones)
 }
 
 /// Whether packets of these zones may meet the settings of a policy.
