@@ -1,3 +1,5 @@
+pub mod Apart
+pub mod Distinct
 pub mod Extended
 pub mod Found
 pub mod Sorting
