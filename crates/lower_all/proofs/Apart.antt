@@ -5,16 +5,25 @@ use Rattle.std.specs.List.{list_all}
 use Rattle.std.proofs.lemmas.Bool.{and_parts, ne_eqb}
 use Rattle.std.proofs.lemmas.List.{append_assoc, append_cancel_left, length-append, map-append}
 use Rattle.fw_addr.specs.WellFormed.{is_name, is_name_byte}
+use Rattle.fw_model.specs.declared.config.Config.{Config}
 use Rattle.fw_model.specs.declared.zone.Zone.{Zone}
 use Rattle.fw_valid.specs.Each.{Each, IsWithoutRepeats}
+use Rattle.fw_valid.specs.Names.{AreNamed}
 use Rattle.fw_zone.specs.Lists.{IsIn}
+use Rattle.lower_all.specs.Joined.{AreJoined, used_zones}
+use Rattle.lower_blocks.specs.Blocks as blocks
+use Rattle.lower_blocks.specs.Blocks.{AreBlocks, Told}
+use Rattle.lower_blocks.specs.Blocks.AreBlocks.{none, one_more}
+use Rattle.lower_blocks.specs.Blocks.Told.{of_policy as told_policy, of_zone as told_zone}
+use Rattle.lower_blocks.specs.Needed.{all_told}
+use Rattle.lower_dispatch.specs.Uses.{is_in_use}
 use Rattle.lower_hooks.specs.Names.{forward_names, forward_start, from_names, input_start, names_of, output_start, pair_start, zone_names}
 use Rattle.lower_zone.specs.Laws.{IsBlock}
 use Rattle.lower_zone.specs.Laws.IsBlock.{of_policy, of_zone}
 use Rattle.lower_zone.specs.Names.{block_of}
 use Rattle.nf_rules.specs.declared.chain.Chain.{Chain}
-use Rattle.lower_all.proofs.Distinct.{apart_from_names, each_of, distinct_each, distinct_joined, distinct_told, from_flat_map, from_map, in_map}
-use Rattle.lower_all.proofs.Found.{in_either}
+use Rattle.lower_all.proofs.Distinct.{apart_from_names, distinct_filtered, each_from, each_of, from_filter, distinct_each, distinct_joined, distinct_told, from_flat_map, from_map, in_map}
+use Rattle.lower_all.proofs.Found.{apart_again, apart_joined, in_either}
 
 -- names that begin alike
 
@@ -228,3 +237,43 @@ hooks_and_blocks_apart zones inputs forwards outputs input forward output block 
     (λ (zone : third other.name ≡ 95). absurd (omega (arith, hooked.0, hooked.1, ap third same, zone)))
     (λ (policy : third other.name ≡ 76). absurd (omega (arith, hooked.0, hooked.1, ap third same, policy)))
     (block_third block other.name is told)
+
+-- all chains
+
+-- a chain of some blocks tells the block of one of them
+pub in_blocks : (config : Config) (told : List Told) (chains : List Chain) → AreBlocks config told chains
+    → (chain : Chain) → IsIn chain chains → (one : Told) × (block_of chain.name ≡ block_of (blocks.block_of one))
+in_blocks config told chains none chain there = absurd there
+in_blocks config told chains (one_more front last old block before here) chain there = ⊎_elim
+    (λ earlier. in_blocks config front old before chain earlier)
+    (λ now. (last, here.names.told chain now))
+    (in_either chain old block there)
+
+told_is_block : (told : Told) → IsBlock (blocks.block_of told)
+told_is_block (told_zone zone) = of_zone zone.name refl
+told_is_block (told_policy policy) = of_policy policy.name refl
+
+used_are_named : (config : Config) → AreNamed config → Each (λ (zone : Zone). IsTrue (is_name zone.name)) (used_zones config)
+used_are_named config named =
+    each_from (λ (zone : Zone). IsTrue (is_name zone.name)) (used_zones config)
+    (λ zone there.
+    each_of (λ name. IsTrue (is_name name)) (map (λ (one : Zone). one.name) config.zones) named.zones.well_formed zone.name
+    (in_map (λ (one : Zone). one.name) zone config.zones (from_filter (is_in_use config) zone config.zones there)))
+
+-- no two chains of a configuration have the same name, where those of its settings have names of their own
+pub names_apart : (config : Config) (chains : List Chain) (joined : AreJoined config chains)
+    → AreNamed config
+    → AllPairs (λ one other. one.name ≢ other.name) joined.settings
+    → AllPairs (λ one other. one.name ≢ other.name) chains
+names_apart config chains joined named apart =
+    let hooks = (joined.inputs ++ joined.forwards) ++ joined.outputs in
+    apart_again (λ (chain : Chain). chain.name) (hooks ++ joined.settings) chains joined.all
+    (apart_joined (λ (chain : Chain). chain.name) hooks joined.settings
+    (hooks_apart (used_zones config) joined.inputs joined.forwards joined.outputs joined.input_names joined.forward_names joined.output_names
+    (distinct_filtered (λ (zone : Zone). zone.name) (is_in_use config) config.zones named.zones.unique)
+    (used_are_named config named))
+    apart
+    (λ chain other there there_too.
+    let block = in_blocks config (all_told config (used_zones config)) joined.settings joined.blocks other there_too in
+    hooks_and_blocks_apart (used_zones config) joined.inputs joined.forwards joined.outputs joined.input_names joined.forward_names joined.output_names
+    (blocks.block_of block.0) (told_is_block block.0) chain other there block.1))

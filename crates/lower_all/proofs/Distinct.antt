@@ -11,6 +11,10 @@ each_of P [] each item there = absurd there
 each_of P (first ∷ others) each item (inl same) = subst P same each.0
 each_of P (first ∷ others) each item (inr there) = each_of P others each.1 item there
 
+pub each_from : {A : Type 0} (P : A → Type 0) (items : List A) → ((item : A) → IsIn item items → P item) → Each P items
+each_from P [] all = tt
+each_from P (item ∷ items) all = (all item (inl refl), each_from P items (λ other there. all other (inr there)))
+
 pub in_map : {A B : Type 0} (f : A → B) (item : A) (items : List A) → IsIn item items → IsIn (f item) (map f items)
 in_map f item [] there = absurd there
 in_map f item (first ∷ others) (inl same) = inl (ap f same)
