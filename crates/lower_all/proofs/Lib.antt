@@ -2,4 +2,5 @@ pub mod Apart
 pub mod Distinct
 pub mod Extended
 pub mod Found
+pub mod Named
 pub mod Sorting
