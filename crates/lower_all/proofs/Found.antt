@@ -129,6 +129,13 @@ module _ {T : Type 0} (name_of : T → List ℕ) where
       let rest = found others (pairs_tail (λ one other. name_of one ≢ name_of other) first others apart) item there in
       rw not_here rest
 
+  -- of two items with the same name there is one
+  pub only_one : (items : List T) → AreApart items → (one other : T) → IsIn one items → IsIn other items → name_of one ≡ name_of other → one ≡ other
+  only_one items apart one other there there_too same =
+      let first : called name_of (name_of other) items ≡ Some one = subst (λ (name : List ℕ). called name_of name items ≡ Some one) same (found items apart one there) in
+      let second = found items apart other there_too in
+      cc
+
   pub apart_again : (items others : List T) → IsPermutation items others → AreApart items → AreApart others
   apart_again items others again apart = pairs_again (λ one other. name_of one ≢ name_of other) (λ one other differ same. differ (sym same)) items others again apart
 

@@ -1,4 +1,5 @@
 pub mod Apart
+pub mod Bases
 pub mod Distinct
 pub mod Extended
 pub mod Found
