@@ -1,5 +1,5 @@
 -- Of what the ruleset of a configuration consists.
-use Rattle.std.specs.Prelude.{◌≡◌, ℕ, Bool, true, false, if◌then◌else◌, List, [], ◌∷◌, ◌++◌, codes, map, IsPermutation}
+use Rattle.std.specs.Prelude.{◌≡◌, ℕ, if◌then◌else◌, List, [], ◌∷◌, ◌++◌, codes, map, IsPermutation}
 use Rattle.std.specs.List.{filter, flat_map}
 use Rattle.fw_addr.specs.Subnets.{Subnet}
 use Rattle.fw_model.specs.declared.config.Config.{Config}

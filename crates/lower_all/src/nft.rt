@@ -1,6 +1,7 @@
 //! The compiler.
 ghost use Rattle.std.specs.Prelude.{◌≡◌, [], IfOk, IsPermutation};
 ghost use Rattle.lower_all.specs.Joined.{AreJoined, AreSetsOf};
+ghost use Rattle.lower_all.specs.Ordered.{IsOrdered};
 
 use crate::blocks::{push_block, push_settings};
 use crate::sets::sets_of;
@@ -33,7 +34,8 @@ fn listed(alloc: Global, runtime: &Runtime) -> Result<Seq<Chain>, Memory>
 
 /// Chains in order of their names.
 fn by_name(chains: Seq<Chain>) -> Result<Seq<Chain>, Memory>
-    ensures { IfOk result (λ ordered. IsPermutation chains ordered) }
+    ensures moved { IfOk result (λ ordered. IsPermutation chains ordered) }
+    ensures sorted { IfOk result (λ ordered. IsOrdered (λ (chain : Chain). chain.name) ordered) }
 {
     let mut ordered = chains.into_vec();
     ordered.sort_by(|one, other| one.name.as_str().cmp(&other.name.as_str()))?;
