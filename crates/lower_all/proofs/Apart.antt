@@ -12,8 +12,7 @@ use Rattle.fw_valid.specs.Names.{AreNamed}
 use Rattle.fw_zone.specs.Lists.{IsIn}
 use Rattle.lower_all.specs.Joined.{AreJoined, used_zones}
 use Rattle.lower_blocks.specs.Blocks as blocks
-use Rattle.lower_blocks.specs.Blocks.{AreBlocks, Told}
-use Rattle.lower_blocks.specs.Blocks.AreBlocks.{none, one_more}
+use Rattle.lower_blocks.specs.Blocks.{Told}
 use Rattle.lower_blocks.specs.Blocks.Told.{of_policy as told_policy, of_zone as told_zone}
 use Rattle.lower_blocks.specs.Needed.{all_told}
 use Rattle.lower_dispatch.specs.Uses.{is_in_use}
@@ -22,8 +21,11 @@ use Rattle.lower_zone.specs.Laws.{IsBlock}
 use Rattle.lower_zone.specs.Laws.IsBlock.{of_policy, of_zone}
 use Rattle.lower_zone.specs.Names.{block_of}
 use Rattle.nf_rules.specs.declared.chain.Chain.{Chain}
-use Rattle.lower_all.proofs.Distinct.{apart_from_names, distinct_filtered, each_from, each_of, from_filter, distinct_each, distinct_joined, distinct_told, from_flat_map, from_map, in_map}
-use Rattle.lower_all.proofs.Found.{apart_again, apart_joined, in_either}
+use Rattle.lower_all.proofs.Distinct.{apart_from_names, distinct_each, distinct_filtered, distinct_joined, distinct_told, each_from, each_of, from_flat_map}
+use Rattle.lower_all.proofs.Found.{apart_again, apart_joined}
+use Rattle.lower_blocks.proofs.Lists.{from_map, in_either, in_map, was_in}
+use Rattle.lower_blocks.proofs.There.{names_apart as settings_apart, of_some_block, told_apart}
+use Rattle.lower_zone.proofs.Apart.{blocks_apart}
 
 -- names that begin alike
 
@@ -240,15 +242,6 @@ hooks_and_blocks_apart zones inputs forwards outputs input forward output block 
 
 -- all chains
 
--- a chain of some blocks tells the block of one of them
-pub in_blocks : (config : Config) (told : List Told) (chains : List Chain) → AreBlocks config told chains
-    → (chain : Chain) → IsIn chain chains → (one : Told) × (block_of chain.name ≡ block_of (blocks.block_of one))
-in_blocks config told chains none chain there = absurd there
-in_blocks config told chains (one_more front last old block before here) chain there = ⊎_elim
-    (λ earlier. in_blocks config front old before chain earlier)
-    (λ now. (last, here.names.told chain now))
-    (in_either chain old block there)
-
 told_is_block : (told : Told) → IsBlock (blocks.block_of told)
 told_is_block (told_zone zone) = of_zone zone.name refl
 told_is_block (told_policy policy) = of_policy policy.name refl
@@ -258,22 +251,20 @@ used_are_named config named =
     each_from (λ (zone : Zone). IsTrue (is_name zone.name)) (used_zones config)
     (λ zone there.
     each_of (λ name. IsTrue (is_name name)) (map (λ (one : Zone). one.name) config.zones) named.zones.well_formed zone.name
-    (in_map (λ (one : Zone). one.name) zone config.zones (from_filter (is_in_use config) zone config.zones there)))
+    (in_map (λ (one : Zone). one.name) zone config.zones (was_in (is_in_use config) zone config.zones there)))
 
--- no two chains of a configuration have the same name, where those of its settings have names of their own
-pub names_apart : (config : Config) (chains : List Chain) (joined : AreJoined config chains)
-    → AreNamed config
-    → AllPairs (λ one other. one.name ≢ other.name) joined.settings
-    → AllPairs (λ one other. one.name ≢ other.name) chains
-names_apart config chains joined named apart =
+-- no two chains of a configuration have the same name
+pub names_apart : (config : Config) (chains : List Chain) → AreJoined config chains → AreNamed config → AllPairs (λ one other. one.name ≢ other.name) chains
+names_apart config chains joined named =
+    let zones = used_zones config in
     let hooks = (joined.inputs ++ joined.forwards) ++ joined.outputs in
     apart_again (λ (chain : Chain). chain.name) (hooks ++ joined.settings) chains joined.all
     (apart_joined (λ (chain : Chain). chain.name) hooks joined.settings
-    (hooks_apart (used_zones config) joined.inputs joined.forwards joined.outputs joined.input_names joined.forward_names joined.output_names
+    (hooks_apart zones joined.inputs joined.forwards joined.outputs joined.input_names joined.forward_names joined.output_names
     (distinct_filtered (λ (zone : Zone). zone.name) (is_in_use config) config.zones named.zones.unique)
     (used_are_named config named))
-    apart
-    (λ chain other there there_too.
-    let block = in_blocks config (all_told config (used_zones config)) joined.settings joined.blocks other there_too in
-    hooks_and_blocks_apart (used_zones config) joined.inputs joined.forwards joined.outputs joined.input_names joined.forward_names joined.output_names
-    (blocks.block_of block.0) (told_is_block block.0) chain other there block.1))
+    (settings_apart config (all_told config zones) joined.settings blocks_apart joined.blocks (told_apart config zones named))
+    (λ chain other in_hooks in_blocks.
+    let block = of_some_block config (all_told config zones) joined.settings joined.blocks other in_blocks in
+    hooks_and_blocks_apart zones joined.inputs joined.forwards joined.outputs joined.input_names joined.forward_names joined.output_names
+    (blocks.block_of block.one) (told_is_block block.one) chain other in_hooks (block.is.names.told other block.chain_in)))

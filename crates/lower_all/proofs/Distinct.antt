@@ -1,10 +1,11 @@
 -- Lists of names in which none stands twice.
-use Rattle.std.proofs.Common.{◌≡◌, ◌≢◌, ℕ, inl, inr, Bool, true, false, List, [], ◌∷◌, ◌++◌, map, ⊎_elim, refl, sym, ap, subst}
+use Rattle.std.proofs.Common.{◌≡◌, ◌≢◌, ℕ, inl, inr, Bool, true, false, List, [], ◌∷◌, ◌++◌, map, ⊎_elim, refl, sym, subst}
 use Rattle.std.specs.Prelude.{if◌then◌else◌}
 use Rattle.std.specs.List.{filter, flat_map}
 use Rattle.fw_valid.specs.Each.{Each, IsWithoutRepeats}
 use Rattle.fw_zone.specs.Lists.{IsIn}
-use Rattle.lower_all.proofs.Found.{AreApart, in_either, pairs_more, pairs_none}
+use Rattle.lower_all.proofs.Found.{AreApart}
+use Rattle.lower_blocks.proofs.Lists.{from_map, in_either, in_map, pairs_more, pairs_none, was_in}
 
 pub each_of : {A : Type 0} (P : A → Type 0) (items : List A) → Each P items → (item : A) → IsIn item items → P item
 each_of P [] each item there = absurd there
@@ -15,33 +16,11 @@ pub each_from : {A : Type 0} (P : A → Type 0) (items : List A) → ((item : A)
 each_from P [] all = tt
 each_from P (item ∷ items) all = (all item (inl refl), each_from P items (λ other there. all other (inr there)))
 
-pub in_map : {A B : Type 0} (f : A → B) (item : A) (items : List A) → IsIn item items → IsIn (f item) (map f items)
-in_map f item [] there = absurd there
-in_map f item (first ∷ others) (inl same) = inl (ap f same)
-in_map f item (first ∷ others) (inr there) = inr (in_map f item others there)
-
-pub from_map : {A B : Type 0} (f : A → B) (name : B) (items : List A) → IsIn name (map f items) → (item : A) × IsIn item items × (f item ≡ name)
-from_map f name [] there = absurd there
-from_map f name (first ∷ others) (inl same) = (first, inl refl, same)
-from_map f name (first ∷ others) (inr there) =
-    let rest = from_map f name others there in
-    (rest.0, inr rest.1, rest.2)
-
 pub from_flat_map : {A B : Type 0} (f : A → List B) (name : B) (items : List A) → IsIn name (flat_map f items) → (item : A) × IsIn item items × IsIn name (f item)
 from_flat_map f name [] there = absurd there
 from_flat_map f name (first ∷ others) there =
     ⊎_elim (λ here. (first, inl refl, here)) (λ behind. let rest = from_flat_map f name others behind in (rest.0, inr rest.1, rest.2))
     (in_either name (f first) (flat_map f others) there)
-
-pub from_filter : {A : Type 0} (test : A → Bool) (item : A) (items : List A) → IsIn item (filter test items) → IsIn item items
-from_filter test item [] there = absurd there
-from_filter test item (first ∷ others) there = by (test first) (from_filter test item others) there
-  where
-    by : (b : Bool) → (IsIn item (filter test others) → IsIn item others)
-        → IsIn item (if b then first ∷ filter test others else filter test others) → IsIn item (first ∷ others)
-    by true rest (inl same) = inl same
-    by true rest (inr behind) = inr (rest behind)
-    by false rest behind = inr (rest behind)
 
 pub distinct_joined : {A : Type 0} (one other : List A) → IsWithoutRepeats one → IsWithoutRepeats other → ((item : A) → IsIn item one → ¬ (IsIn item other)) → IsWithoutRepeats (one ++ other)
 distinct_joined [] other distinct distinct_other across = distinct_other
@@ -68,7 +47,7 @@ distinct_filtered f test (item ∷ items) distinct = by (test item) (distinct_fi
     by true rest = (
       λ there.
           let other = from_map f (f item) (filter test items) there in
-          distinct.0 (subst (λ name. IsIn name (map f items)) other.2 (in_map f other.0 items (from_filter test other.0 items other.1))),
+          distinct.0 (subst (λ name. IsIn name (map f items)) other.2 (in_map f other.0 items (was_in test other.0 items other.1))),
       rest,
     )
     by false rest = rest

@@ -1,5 +1,5 @@
 -- Lists in which no two items have the same name: the one of a name is what is found, and in order each is before those behind it.
-use Rattle.std.proofs.Common.{◌≡◌, ◌≢◌, ◌∙◌, ◌<◌, ◌⊎◌, ℕ, zero, suc, inl, inr, Bool, true, false, List, [], ◌∷◌, ◌++◌, length, get_or, set, swap, Some, ◌==◌, Ordering, AllPairs, IsPermutation, ⊎_elim, refl, sym, ap, subst, subst₂, arith}
+use Rattle.std.proofs.Common.{◌≡◌, ◌≢◌, ◌∙◌, ◌<◌, ℕ, inl, inr, Bool, true, false, List, [], ◌∷◌, ◌++◌, length, get_or, set, swap, Some, ◌==◌, Ordering, AllPairs, IsPermutation, refl, sym, ap, subst, subst₂, arith}
 use Rattle.std.specs.Prelude.{if◌then◌else◌}
 use Rattle.std.specs.Cmp.Lexicographic.{slice_cmp}
 use Rattle.std.specs.Ordering.{is_eq, nat_cmp}
@@ -15,61 +15,7 @@ use Rattle.std.proofs.lemmas.Slice.Eq.{bytes_eq-Decides}
 use Rattle.fw_zone.specs.Lists.{IsIn}
 use Rattle.nf_sound.specs.Names.{IsByName, called}
 use Rattle.lower_all.specs.Ordered.{IsOrdered}
-
--- places in a list
-
-pub in_place : {A : Type 0} (items : List A) (at : ℕ) (default : A) → at < length items → IsIn (get_or items at default) items
-in_place [] at default within = absurd (omega (arith, within))
-in_place (first ∷ others) zero default within = inl refl
-in_place (first ∷ others) (suc at) default within = inr (in_place others at default (omega (arith, within)))
-
-pub place_of : {A : Type 0} (items : List A) (item : A) → IsIn item items → (place : ℕ) × (place < length items) × (get_or items place item ≡ item)
-place_of [] item there = absurd there
-place_of (first ∷ others) item (inl same) = (0, omega arith, same)
-place_of (first ∷ others) item (inr there) =
-    let rest = place_of others item there in
-    (suc rest.0, omega (arith, rest.1), rest.2)
-
-pub in_first : {A : Type 0} (item : A) (one other : List A) → IsIn item one → IsIn item (one ++ other)
-in_first item [] other there = absurd there
-in_first item (first ∷ others) other (inl same) = inl same
-in_first item (first ∷ others) other (inr there) = inr (in_first item others other there)
-
-pub in_second : {A : Type 0} (item : A) (one other : List A) → IsIn item other → IsIn item (one ++ other)
-in_second item [] other there = there
-in_second item (first ∷ others) other there = inr (in_second item others other there)
-
-pub in_either : {A : Type 0} (item : A) (one other : List A) → IsIn item (one ++ other) → IsIn item one ⊎ IsIn item other
-in_either item [] other there = inr there
-in_either item (first ∷ others) other (inl same) = inl (inl same)
-in_either item (first ∷ others) other (inr there) = ⊎_elim (λ old. inl (inr old)) (λ new. inr new) (in_either item others other there)
-
--- what holds of each item and each behind it
-
-module _ {T : Type 0} (R : T → T → Type 0) where
-  pub pairs_none : AllPairs R []
-  pairs_none = λ one other default before within. absurd (omega (arith, within))
-
-  pub pairs_tail : (item : T) (items : List T) → AllPairs R (item ∷ items) → AllPairs R items
-  pairs_tail item items all = λ one other default before within. all (suc one) (suc other) default (omega arith) (omega arith)
-
-  pub pairs_head : (item : T) (items : List T) → AllPairs R (item ∷ items) → (other : T) → IsIn other items → R item other
-  pairs_head item items all other there =
-      let place = place_of items other there in
-      subst (R item) place.2 (all 0 (suc place.0) other (omega arith) (omega (arith, place.1)))
-
-  pub pairs_more : (item : T) (items : List T) → ((other : T) → IsIn other items → R item other) → AllPairs R items → AllPairs R (item ∷ items)
-  pairs_more item items here rest zero zero default before within = absurd (omega (arith, before))
-  pairs_more item items here rest zero (suc other) default before within = here (get_or items other default) (in_place items other default (omega (arith, within)))
-  pairs_more item items here rest (suc one) zero default before within = absurd (omega (arith, before))
-  pairs_more item items here rest (suc one) (suc other) default before within = rest one other default (omega (arith, before)) (omega (arith, within))
-
-  pub pairs_joined : (one other : List T) → AllPairs R one → AllPairs R other → ((first second : T) → IsIn first one → IsIn second other → R first second) → AllPairs R (one ++ other)
-  pairs_joined [] other all all_other across = all_other
-  pairs_joined (item ∷ items) other all all_other across =
-      pairs_more item (items ++ other)
-      (λ second there. ⊎_elim (λ old. pairs_head item items all second old) (λ new. across item second (inl refl) new) (in_either second items other there))
-      (pairs_joined items other (pairs_tail item items all) all_other (λ first second old new. across first second (inr old) new))
+use Rattle.lower_blocks.proofs.Lists.{in_place, pairs_head, pairs_joined, pairs_tail, place_of}
 
 -- the same items in another order
 
@@ -182,6 +128,13 @@ module _ {T : Type 0} (name_of : T → List ℕ) where
       let not_here : bytes_eq (name_of first) (name_of item) ≡ false = untrue (bytes_eq (name_of first) (name_of item)) (λ is. differ ((bytes_eq-Decides (name_of first) (name_of item)).0 is)) in
       let rest = found others (pairs_tail (λ one other. name_of one ≢ name_of other) first others apart) item there in
       rw not_here rest
+
+  -- of two items with the same name there is one
+  pub only_one : (items : List T) → AreApart items → (one other : T) → IsIn one items → IsIn other items → name_of one ≡ name_of other → one ≡ other
+  only_one items apart one other there there_too same =
+      let first : called name_of (name_of other) items ≡ Some one = subst (λ (name : List ℕ). called name_of name items ≡ Some one) same (found items apart one there) in
+      let second = found items apart other there_too in
+      cc
 
   pub apart_again : (items others : List T) → IsPermutation items others → AreApart items → AreApart others
   apart_again items others again apart = pairs_again (λ one other. name_of one ≢ name_of other) (λ one other differ same. differ (sym same)) items others again apart

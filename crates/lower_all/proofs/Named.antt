@@ -1,5 +1,5 @@
 -- Chains and sets by their names: each is found by its own, and they stand in order.
-use Rattle.std.proofs.Common.{◌≡◌, ◌≢◌, List, [], ◌∷◌, map, codes, Some, is_some, AllPairs, refl, sym, ap, subst}
+use Rattle.std.proofs.Common.{◌++◌, ◌≡◌, ◌≢◌, List, [], ◌∷◌, map, codes, Some, is_some, AllPairs, refl, sym, ap, subst}
 use Rattle.fw_model.specs.declared.config.Config.{Config}
 use Rattle.fw_model.specs.declared.ipset.IpSet.{IpSet}
 use Rattle.fw_valid.specs.Each.{IsWithoutRepeats}
@@ -14,8 +14,10 @@ use Rattle.nf_rules.specs.declared.ruleset.Ruleset.{Ruleset}
 use Rattle.nf_rules.specs.declared.set.NfSet.{NfSet}
 use Rattle.nf_sound.specs.Names.{IsByName, called}
 use Rattle.std.proofs.lemmas.List.{append_cancel_left}
-use Rattle.lower_all.proofs.Distinct.{apart_from_names, distinct_told, in_map}
+use Rattle.lower_all.proofs.Distinct.{apart_from_names, distinct_told}
 use Rattle.lower_all.proofs.Found.{apart_again, by_name, found, is_in_again}
+use Rattle.lower_all.proofs.Apart.{names_apart}
+use Rattle.lower_blocks.proofs.Lists.{in_first, in_map, in_second}
 
 map_twice : {A B C : Type 0} (f : B → C) (g : A → B) (items : List A) → map f (map g items) ≡ map (λ item. f (g item)) items
 map_twice f g [] = refl
@@ -23,17 +25,34 @@ map_twice f g (item ∷ items) = ap (λ rest. f (g item) ∷ rest) (map_twice f 
 
 -- chains
 
-pub chains_by_name : (config : Config) (chains : List Chain) → AreJoined config chains
-    → AllPairs (λ one other. one.name ≢ other.name) chains
-    → IsByName (λ (chain : Chain). chain.name) chains
-chains_by_name config chains joined apart = by_name (λ (chain : Chain). chain.name) chains joined.sorted apart
+pub chains_by_name : (config : Config) (chains : List Chain) → AreJoined config chains → AreNamed config → IsByName (λ (chain : Chain). chain.name) chains
+chains_by_name config chains joined named = by_name (λ (chain : Chain). chain.name) chains joined.sorted (names_apart config chains joined named)
 
--- chains that are among those of a ruleset are there by their names
-pub are_there : (table : Ruleset) (some : List Chain)
-    → AllPairs (λ one other. one.name ≢ other.name) table.chains
-    → ((chain : Chain) → IsIn chain some → IsIn chain table.chains)
-    → EachIsThere some table
-are_there table some apart among chain there = found (λ (one : Chain). one.name) table.chains apart chain (among chain there)
+module _ (config : Config) (table : Ruleset) (joined : AreJoined config table.chains) (named : AreNamed config) where
+  abbrev hooks : List Chain
+  hooks = (joined.inputs ++ joined.forwards) ++ joined.outputs
+
+  -- chains that are among those of the ruleset are there by their names
+  pub are_there : (some : List Chain) → ((chain : Chain) → IsIn chain some → IsIn chain (hooks ++ joined.settings)) → EachIsThere some table
+  are_there some among chain there =
+      found (λ (one : Chain). one.name) table.chains (names_apart config table.chains joined named) chain
+      (is_in_again (hooks ++ joined.settings) table.chains joined.all chain (among chain there))
+
+  in_hooks : (chain : Chain) → IsIn chain hooks → IsIn chain (hooks ++ joined.settings)
+  in_hooks chain there = in_first chain hooks joined.settings there
+
+  pub inputs_there : EachIsThere joined.inputs table
+  inputs_there = are_there joined.inputs (λ chain there. in_hooks chain (in_first chain (joined.inputs ++ joined.forwards) joined.outputs (in_first chain joined.inputs joined.forwards there)))
+
+  pub forwards_there : EachIsThere joined.forwards table
+  forwards_there = are_there joined.forwards (λ chain there. in_hooks chain (in_first chain (joined.inputs ++ joined.forwards) joined.outputs (in_second chain joined.inputs joined.forwards there)))
+
+  pub outputs_there : EachIsThere joined.outputs table
+  outputs_there = are_there joined.outputs (λ chain there. in_hooks chain (in_second chain (joined.inputs ++ joined.forwards) joined.outputs there))
+
+  -- the chains of a block of settings
+  pub block_there : (block : List Chain) → ((chain : Chain) → IsIn chain block → IsIn chain joined.settings) → EachIsThere block table
+  block_there block among = are_there block (λ chain there. in_second chain hooks joined.settings (among chain there))
 
 -- sets
 

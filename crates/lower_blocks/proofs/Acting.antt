@@ -1,6 +1,5 @@
 -- Policies that act on packets of some zones are told.
-use Rattle.std.proofs.Common.{◌≡◌, ◌∙◌, ◌&&◌, ◌||◌, inl, inr, List, [], ◌∷◌, ◌++◌, map, Bool, true, false, ℕ, None, Some, refl, ap, subst}
-use Rattle.std.specs.Prelude.{if◌then◌else◌}
+use Rattle.std.proofs.Common.{◌≡◌, ◌∙◌, ◌&&◌, ◌||◌, inl, inr, List, [], ◌∷◌, map, Bool, true, false, ℕ, None, Some, refl, ap, subst}
 use Rattle.std.specs.List.{filter, list_any}
 use Rattle.std.proofs.lemmas.Bool.{and_parts}
 use Rattle.fw_model.specs.declared.config.Config.{Config}
@@ -15,7 +14,6 @@ use Rattle.lower_blocks.specs.Blocks.Told.{of_policy, of_zone}
 use Rattle.lower_blocks.specs.Needed.{ActingPoliciesAreTold, IsEnd, is_needed, is_told, stands_for_any}
 use Rattle.lower_blocks.proofs.Lists.{in_map, in_second, kept_in}
 use Rattle.lower_dispatch.proofs.Every.{Every, every_in_order, every_kept}
-use Rattle.lower_hooks.specs.Settings.{has_settings}
 
 -- what holds of every item holds of this one
 of_every : {A : Type 0} (P : A → Type 0) (xs : List A) → Every P xs → (x : A) → IsIn x xs → P x

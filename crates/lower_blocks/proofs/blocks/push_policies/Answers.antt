@@ -16,11 +16,11 @@ loop-place-preserved c =
     let below : place < length policies = search rules in
     let at : policy ≡ get_or policies place policy = search rules in
     elim c.if-is_needed.branch [
-      then-is_needed+in_ok-policy_block+in_ok-push_block w ↦
-        told_more config of_policy (is_needed (lent c.args.zones.now)) policies place policy below at
-        c.args.chains.now c.loop-place.chains c.if-is_needed.chains w.in_ok-policy_block.field-0 (sym c.is_needed.ensures ∙ w.if-is_needed.true)
-        (w.in_ok-policy_block.ensures policy (slice_get_read policies (length policies) place policy refl below at)) (search rules) c.loop-place.invariant
+      | then-is_needed+in_ok-policy_block+in_ok-push_block w ↦
+          told_more config of_policy (is_needed (lent c.args.zones.now)) policies place policy below at
+          c.args.chains.now c.loop-place.chains c.if-is_needed.chains w.in_ok-policy_block.field-0 (sym c.is_needed.ensures ∙ w.if-is_needed.true)
+          (w.in_ok-policy_block.ensures policy (slice_get_read policies (length policies) place policy refl below at)) (search rules) c.loop-place.invariant
       | else-is_needed w ↦
-        told_not config of_policy (is_needed (lent c.args.zones.now)) policies place policy below at
-        c.args.chains.now c.loop-place.chains c.if-is_needed.chains (sym c.is_needed.ensures ∙ w.if-is_needed.false) w.chains-is c.loop-place.invariant
+          told_not config of_policy (is_needed (lent c.args.zones.now)) policies place policy below at
+          c.args.chains.now c.loop-place.chains c.if-is_needed.chains (sym c.is_needed.ensures ∙ w.if-is_needed.false) w.chains-is c.loop-place.invariant
     ]

@@ -1,4 +1,4 @@
-use Rattle.std.proofs.Common.{rules, ◌≡◌, [], List, map, subst, sym}
+use Rattle.std.proofs.Common.{rules, ◌≡◌, [], List, subst, sym}
 use Rattle.lower_blocks.specs.Blocks.{AreBlocks}
 use Rattle.lower_blocks.specs.Blocks.AreBlocks.{none}
 use Rattle.lower_blocks.proofs.blocks.settings_chains.Goals as goal
