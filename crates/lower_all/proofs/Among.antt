@@ -15,15 +15,6 @@ pub right : (one other : Bool) → (one && other) ≡ true → other ≡ true
 right true other is = is
 right false other is = cc
 
-pub in_first : {A : Type 0} (item : A) (one other : List A) → IsIn item one → IsIn item (one ++ other)
-in_first item [] other there = absurd there
-in_first item (first ∷ others) other (inl same) = inl same
-in_first item (first ∷ others) other (inr there) = inr (in_first item others other there)
-
-pub in_second : {A : Type 0} (item : A) (one other : List A) → IsIn item other → IsIn item (one ++ other)
-in_second item [] other there = there
-in_second item (first ∷ others) other there = inr (in_second item others other there)
-
 -- what holds of the items of two lists holds of those of both
 pub in_both : {A : Type 0} (P : A → Type 0) (one other : List A)
     → ((item : A) → IsIn item one → P item) → ((item : A) → IsIn item other → P item)
@@ -31,11 +22,6 @@ pub in_both : {A : Type 0} (P : A → Type 0) (one other : List A)
 in_both P [] other first second item there = second item there
 in_both P (x ∷ one) other first second item (inl same) = first item (inl same)
 in_both P (x ∷ one) other first second item (inr there) = in_both P one other (λ it is. first it (inr is)) second item there
-
-pub in_map : {A B : Type 0} (f : A → B) (item : A) (items : List A) → IsIn item items → IsIn (f item) (map f items)
-in_map f item [] there = absurd there
-in_map f item (first ∷ others) (inl same) = inl (ap f same)
-in_map f item (first ∷ others) (inr there) = inr (in_map f item others there)
 
 -- an item that is tested for is in what is left
 pub in_filter : {A : Type 0} (asked : A → Bool) (item : A) (items : List A) → asked item ≡ true → IsIn item items → IsIn item (filter asked items)

@@ -1,9 +1,7 @@
 pub mod Among
 pub mod Apart
-pub mod Bases
 pub mod Called
 pub mod Distinct
-pub mod Extended
 pub mod Found
 pub mod Joining
 pub mod Named

@@ -6,7 +6,8 @@ use Rattle.fw_model.specs.declared.config.Config.{Config}
 use Rattle.fw_model.specs.declared.zone.Zone.{Zone}
 use Rattle.fw_zone.specs.Lists.{IsIn}
 use Rattle.lower_all.specs.Joined.{AreJoined, used_zones}
-use Rattle.lower_all.proofs.Among.{in_both, in_first, in_second}
+use Rattle.lower_all.proofs.Among.{in_both}
+use Rattle.lower_blocks.proofs.Lists.{in_first, in_second}
 use Rattle.lower_blocks.specs.Blocks.{Told}
 use Rattle.lower_blocks.proofs.There.{BlockIn}
 use Rattle.lower_match.specs.Lowers.{EachStands}

@@ -10,10 +10,11 @@ use Rattle.fw_verdict.specs.declared.policies.Stage.{Stage}
 use Rattle.fw_verdict.specs.declared.policies.Stage.TheVariants as stage
 use Rattle.fw_zone.specs.Lists.{IsIn}
 use Rattle.lower_all.specs.Joined.{AreJoined, used_zones}
-use Rattle.lower_all.proofs.Among.{all_of_each, each_of_all, in_map, of_flat_map, of_map}
+use Rattle.lower_all.proofs.Among.{all_of_each, each_of_all, of_flat_map, of_map}
 use Rattle.lower_all.proofs.Called.{called_is}
 use Rattle.lower_all.proofs.Parts.{HasParts, block_there, each_chain, in_forwards, in_inputs, in_outputs, in_settings, same_chain}
 use Rattle.lower_all.proofs.Working.{used_is_listed, zone_is_told}
+use Rattle.lower_blocks.proofs.Lists.{in_map}
 use Rattle.lower_blocks.specs.Blocks.{Told, block_of}
 use Rattle.lower_blocks.specs.Blocks.Told.{of_policy, of_zone}
 use Rattle.lower_blocks.specs.Needed.{ActingPoliciesAreTold, IsEnd, all_told}

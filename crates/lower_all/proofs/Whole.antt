@@ -19,11 +19,7 @@ use Rattle.lower_all.proofs.Parts.{HasParts}
 use Rattle.lower_all.proofs.SetsStand.{sets_stand}
 use Rattle.lower_all.proofs.Standing.{is_sound}
 use Rattle.lower_all.proofs.Working.{all_works}
-use Rattle.lower_blocks.specs.Needed.{ActingPoliciesAreTold, all_told}
-use Rattle.lower_blocks.proofs.There.{told_apart}
-use Rattle.lower_blocks.proofs.There as blocks
-use Rattle.lower_zone.specs.Laws.{AreBlocksApart}
-use Rattle.lower_all.specs.Joined.{used_zones}
+use Rattle.lower_blocks.specs.Needed.{ActingPoliciesAreTold}
 use Rattle.lower_hooks.specs.Laws.{HooksLeadTheWay, OneRunsAtEach}
 use Rattle.nf_goal.specs.Compiles.{Compiles}
 use Rattle.nf_rules.specs.declared.chain.Chain.{Chain}
@@ -43,12 +39,9 @@ some_called {T = T} name_of name (first ∷ others) there = either (bytes_eq (na
     either false other (inl same) rest = let is = (bytes_eq-Decides (name_of first) name).1 same in cc
     either false other (inr later) rest = rest later
 
-module _ (config : Config) (rules : Ruleset) (blocks_apart : AreBlocksApart) (made : IsCompiled config rules) (valid : IsValid config) where
+module _ (config : Config) (rules : Ruleset) (made : IsCompiled config rules) (valid : IsValid config) where
   apart : AllPairs (λ (one other : Chain). one.name ≢ other.name) rules.chains
-  apart =
-      names_apart config rules.chains made.chains valid.names
-      (blocks.names_apart config (all_told config (used_zones config)) made.chains.settings blocks_apart made.chains.blocks
-      (told_apart config (used_zones config) valid.names))
+  apart = names_apart config rules.chains made.chains valid.names
 
   has_parts : HasParts config rules
   has_parts = record {
@@ -63,20 +56,20 @@ module _ (config : Config) (rules : Ruleset) (blocks_apart : AreBlocksApart) (ma
 
   in_order : AreByName rules
   in_order = record {
-    chains = chains_by_name config rules.chains made.chains apart;
+    chains = chains_by_name config rules.chains made.chains valid.names;
     sets = sets_by_name config rules.sets made.sets valid.names;
     maps = subst (λ (maps : List NfMap). IsByName (λ (map : NfMap). map.name) maps) (sym made.no_map) (λ one other default before within. absurd (omega (arith, within)));
   }
 
-pub compiled_compiles : AreBlocksApart → HooksLeadTheWay → OneRunsAtEach → ActingPoliciesAreTold
+pub compiled_compiles : HooksLeadTheWay → OneRunsAtEach → ActingPoliciesAreTold
     → (rules : Ruleset) (runtime : Runtime)
     → IsCompiled runtime.config rules
     → IsValid runtime.config
     → runtime.panic ≡ false
     → Compiles rules runtime
-compiled_compiles blocks_apart way one_runs acting rules runtime made valid no_panic =
-    let parts = has_parts runtime.config rules blocks_apart made valid in
+compiled_compiles way one_runs acting rules runtime made valid no_panic =
+    let parts = has_parts runtime.config rules made valid in
     record {
-      sound = is_sound runtime.config rules parts acting (in_order runtime.config rules blocks_apart made valid) made.no_map;
+      sound = is_sound runtime.config rules parts acting (in_order runtime.config rules made valid) made.no_map;
       outcomes = way rules runtime no_panic (all_works runtime.config rules parts acting one_runs);
     }

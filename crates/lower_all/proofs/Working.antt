@@ -10,8 +10,9 @@ use Rattle.fw_verdict.specs.declared.policies.Stage.{Stage}
 use Rattle.fw_verdict.specs.declared.policies.Stage.TheVariants as stage
 use Rattle.fw_zone.specs.Lists.{IsIn}
 use Rattle.lower_all.specs.Joined.{AreJoined, used_zones}
-use Rattle.lower_all.proofs.Among.{both, in_filter, in_first, in_map, in_second, of_filter}
+use Rattle.lower_all.proofs.Among.{both, in_filter, of_filter}
 use Rattle.lower_all.proofs.Parts.{HasParts, block_there, each_chain, forwards_there, in_forwards, in_inputs, in_outputs, inputs_there, outputs_there}
+use Rattle.lower_blocks.proofs.Lists.{in_first, in_map, in_second}
 use Rattle.lower_blocks.specs.Blocks.{Told, block_of, walk_of}
 use Rattle.lower_blocks.specs.Blocks.Told.{of_policy, of_zone}
 use Rattle.lower_blocks.specs.Needed.{ActingPoliciesAreTold, IsEnd, all_told, is_needed, is_told}

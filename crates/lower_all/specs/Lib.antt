@@ -1,4 +1,3 @@
 pub mod Compiled
-pub mod Extending
 pub mod Joined
 pub mod Ordered
