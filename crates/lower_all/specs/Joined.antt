@@ -1,5 +1,5 @@
 -- Of what the ruleset of a configuration consists.
-use Rattle.std.specs.Prelude.{◌≡◌, ℕ, Bool, true, false, if◌then◌else◌, List, [], ◌∷◌, ◌++◌, codes, map, IsPermutation}
+use Rattle.std.specs.Prelude.{◌≡◌, ℕ, if◌then◌else◌, List, [], ◌∷◌, ◌++◌, codes, map, IsPermutation}
 use Rattle.std.specs.List.{filter, flat_map}
 use Rattle.fw_addr.specs.Subnets.{Subnet}
 use Rattle.fw_model.specs.declared.config.Config.{Config}
@@ -70,6 +70,9 @@ abbrev pub set_of : IpSet → NfSet
 set_of set = record { name = set_name set.name; body = body_of set.kind (kept set) }
 
 -- one for each ipset, in order of their names
-pub record AreSetsOf (config : Config) (sets : List NfSet) : Type 0 where
-  pub all : IsPermutation (map set_of config.ipsets) sets
+pub record HaveSets (ipsets : List IpSet) (sets : List NfSet) : Type 0 where
+  pub all : IsPermutation (map set_of ipsets) sets
   pub sorted : IsOrdered (λ (set : NfSet). set.name) sets
+
+abbrev pub AreSetsOf : Config → List NfSet → Type 0
+AreSetsOf config sets = HaveSets config.ipsets sets

@@ -38,3 +38,7 @@ pub data AreBlocks (config : Config) : List Told → List Chain → Type 0 where
       → AreBlocks config told chains
       → AreBlock config last block
       → AreBlocks config (told ++ last ∷ []) (chains ++ block)
+
+-- The chains of these came behind the blocks that were there.
+abbrev pub Behind : Config → List Told → List Chain → List Chain → Type 0
+Behind config more old new = (told : List Told) → AreBlocks config told old → AreBlocks config (told ++ more) new
