@@ -1,5 +1,6 @@
 -- Chains that were added, and those that are still there.
-use Rattle.std.proofs.Common.{◌≡◌, ◌∙◌, ◌⊎◌, inl, inr, ℕ, ◌+◌, ◌<◌, List, [], ◌∷◌, ◌++◌, length, take, get_or, None, refl, sym, ap, subst, Bor}
+use Rattle.std.proofs.Common.{◌≡◌, ◌∙◌, ◌⊎◌, inl, inr, ℕ, ◌+◌, ◌<◌, ◌≤◌, List, [], ◌∷◌, ◌++◌, length, take, get_or, None, refl, sym, ap, subst, Bor}
+use Rattle.std.proofs.lemmas.List.{take_all}
 use Rattle.fw_model.specs.declared.config.Config.{Config}
 use Rattle.fw_model.specs.declared.packet.Packet.{Packet}
 use Rattle.fw_model.specs.declared.zone.Zone.{Zone}
@@ -114,3 +115,9 @@ one_more {A = A} Has all at item below is before this one among =
     either : IsIn one (lent (take at all)) ⊎ (item.now ≡ one) → Has one
     either (inl there) = before one there
     either (inr same) = subst Has same this
+
+-- and then for all
+pub for_all : {A : Type 0} (Has : A → Type 0) (all : List (Bor A)) (at : ℕ) → length all ≤ at
+    → ((one : A) → IsIn one (lent (take at all)) → Has one)
+    → (one : A) → IsIn one (lent all) → Has one
+for_all Has all at whole so_far one among = so_far one (subst (λ list. IsIn one (lent list)) (sym (take_all at all whole)) among)

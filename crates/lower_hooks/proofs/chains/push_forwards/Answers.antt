@@ -1,13 +1,12 @@
-use Rattle.std.proofs.Common.{append-nil, ◌++◌, ◌∙◌, List, sym, ap, subst, Bor}
+use Rattle.std.proofs.Common.{append-nil, ◌++◌, ◌∙◌, List, sym, ap, Bor}
 use Rattle.std.proofs.lemmas.List.{take_all}
 use Rattle.fw_model.specs.declared.zone.Zone.{Zone}
 use Rattle.fw_order.specs.Borrowed.{lent}
-use Rattle.fw_zone.specs.Lists.{IsIn}
 use Rattle.lower_hooks.specs.Chains.{HasPairs}
 use Rattle.lower_hooks.specs.Leads.{PairsLead}
 use Rattle.lower_hooks.specs.Names.{forward_names, from_names, names_of}
 use Rattle.lower_hooks.proofs.Lists.{added_more}
-use Rattle.lower_hooks.proofs.Kept.{grows_not, grows_on, one_more, pairs_kept, pairs_lead}
+use Rattle.lower_hooks.proofs.Kept.{grows_not, grows_on, for_all, one_more, pairs_kept, pairs_lead}
 use Rattle.lower_hooks.proofs.chains.push_forwards.Goals as goal
 
 pub loop-zone-init : goal.loop-zone-init
@@ -31,15 +30,11 @@ pub returns-clause-grows : goal.returns-clause-grows
 returns-clause-grows c = c.loop-zone.invariant.0
 
 pub returns-clause-there : goal.returns-clause-there
-returns-clause-there c = λ zone among.
-    c.loop-zone.invariant.1 zone
-    (subst (λ (list : List (Bor Zone)). IsIn zone (lent list)) (sym (take_all c.loop-zone.zone-index c.args.zones.now c.loop-zone-test.false)) among)
+returns-clause-there c = for_all _ c.args.zones.now c.loop-zone.zone-index c.loop-zone-test.false c.loop-zone.invariant.1
 
 pub returns-clause-names : goal.returns-clause-names
 returns-clause-names c =
     c.loop-zone.invariant.2 ∙ ap (λ (list : List (Bor Zone)). names_of c.args.chains.now ++ forward_names (lent c.args.others.now) (lent list)) (take_all c.loop-zone.zone-index c.args.zones.now c.loop-zone-test.false)
 
 pub returns-clause-leads : goal.returns-clause-leads
-returns-clause-leads c = λ zone among.
-    c.loop-zone.invariant.3 zone
-    (subst (λ (list : List (Bor Zone)). IsIn zone (lent list)) (sym (take_all c.loop-zone.zone-index c.args.zones.now c.loop-zone-test.false)) among)
+returns-clause-leads c = for_all _ c.args.zones.now c.loop-zone.zone-index c.loop-zone-test.false c.loop-zone.invariant.3
