@@ -1,3 +1,2 @@
-pub mod Extending
 pub mod Joined
 pub mod Ordered

@@ -3,11 +3,11 @@ ghost use Rattle.std.specs.Prelude.{◌≡◌, [], IfOk, IsPermutation};
 ghost use Rattle.lower_all.specs.Joined.{AreJoined, AreSetsOf};
 ghost use Rattle.lower_all.specs.Ordered.{IsOrdered};
 
-use crate::blocks::{push_block, push_settings};
 use crate::sets::sets_of;
 use crate::zones::used_zones;
 use fw_base::{Memory, Seq};
 use fw_model::Runtime;
+use lower_blocks::{push_block, settings_chains};
 use lower_hooks::{forward_chains, input_chains, output_chains};
 use nf_rules::{Chain, Ruleset};
 use std::alloc::Global;
@@ -28,7 +28,7 @@ fn listed(alloc: Global, runtime: &Runtime) -> Result<Seq<Chain>, Memory>
     let mut chains = input_chains(alloc, config, zones)?;
     push_block(forward_chains(alloc, config, zones)?, &mut chains)?;
     push_block(output_chains(alloc, config, zones)?, &mut chains)?;
-    push_settings(alloc, runtime, zones, &mut chains)?;
+    push_block(settings_chains(alloc, runtime, zones)?, &mut chains)?;
     Ok(chains)
 }
 

@@ -2,6 +2,7 @@
 ghost use Rattle.std.specs.Prelude.{◌≡◌, IfOk, IsPermutation, map};
 ghost use Rattle.std.specs.List.{flat_map};
 ghost use Rattle.lower_all.specs.Joined.{kept, mac_of, net_of, set_of};
+ghost use Rattle.lower_all.specs.Ordered.{IsOrdered};
 ghost use Rattle.lower_match.specs.Lowers.{set_name};
 ghost use Rattle.nf_rules.specs.declared.set.SetBody.TheVariants as body;
 
@@ -80,7 +81,8 @@ fn listed(alloc: Global, ipsets: &[IpSet]) -> Result<Vec<NfSet>, Memory>
 
 /// The sets of ipsets, in order of their names.
 pub fn sets_of(alloc: Global, ipsets: &[IpSet]) -> Result<Seq<NfSet>, Memory>
-    ensures { IfOk result (λ sets. IsPermutation (map set_of ipsets.now) sets) }
+    ensures all { IfOk result (λ sets. IsPermutation (map set_of ipsets.now) sets) }
+    ensures sorted { IfOk result (λ sets. IsOrdered (λ (set : NfSet). set.name) sets) }
 {
     let mut sets = listed(alloc, ipsets)?;
     sets.sort_by(|one, other| one.name.as_str().cmp(&other.name.as_str()))?;
