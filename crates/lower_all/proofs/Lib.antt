@@ -1,7 +1,13 @@
+pub mod Among
 pub mod Apart
-pub mod Bases
+pub mod Called
 pub mod Distinct
-pub mod Extended
 pub mod Found
+pub mod Joining
 pub mod Named
+pub mod Parts
+pub mod SetsStand
 pub mod Sorting
+pub mod Standing
+pub mod Whole
+pub mod Working

@@ -28,32 +28,6 @@ map_twice f g (item ∷ items) = ap (λ rest. f (g item) ∷ rest) (map_twice f 
 pub chains_by_name : (config : Config) (chains : List Chain) → AreJoined config chains → AreNamed config → IsByName (λ (chain : Chain). chain.name) chains
 chains_by_name config chains joined named = by_name (λ (chain : Chain). chain.name) chains joined.sorted (names_apart config chains joined named)
 
-module _ (config : Config) (table : Ruleset) (joined : AreJoined config table.chains) (named : AreNamed config) where
-  abbrev hooks : List Chain
-  hooks = (joined.inputs ++ joined.forwards) ++ joined.outputs
-
-  -- chains that are among those of the ruleset are there by their names
-  pub are_there : (some : List Chain) → ((chain : Chain) → IsIn chain some → IsIn chain (hooks ++ joined.settings)) → EachIsThere some table
-  are_there some among chain there =
-      found (λ (one : Chain). one.name) table.chains (names_apart config table.chains joined named) chain
-      (is_in_again (hooks ++ joined.settings) table.chains joined.all chain (among chain there))
-
-  in_hooks : (chain : Chain) → IsIn chain hooks → IsIn chain (hooks ++ joined.settings)
-  in_hooks chain there = in_first chain hooks joined.settings there
-
-  pub inputs_there : EachIsThere joined.inputs table
-  inputs_there = are_there joined.inputs (λ chain there. in_hooks chain (in_first chain (joined.inputs ++ joined.forwards) joined.outputs (in_first chain joined.inputs joined.forwards there)))
-
-  pub forwards_there : EachIsThere joined.forwards table
-  forwards_there = are_there joined.forwards (λ chain there. in_hooks chain (in_first chain (joined.inputs ++ joined.forwards) joined.outputs (in_second chain joined.inputs joined.forwards there)))
-
-  pub outputs_there : EachIsThere joined.outputs table
-  outputs_there = are_there joined.outputs (λ chain there. in_hooks chain (in_second chain (joined.inputs ++ joined.forwards) joined.outputs there))
-
-  -- the chains of a block of settings
-  pub block_there : (block : List Chain) → ((chain : Chain) → IsIn chain block → IsIn chain joined.settings) → EachIsThere block table
-  block_there block among = are_there block (λ chain there. in_second chain hooks joined.settings (among chain there))
-
 -- sets
 
 pub sets_apart : (config : Config) (sets : List NfSet) → AreSetsOf config sets → AreNamed config → AllPairs (λ one other. one.name ≢ other.name) sets

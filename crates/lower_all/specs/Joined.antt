@@ -70,6 +70,9 @@ abbrev pub set_of : IpSet → NfSet
 set_of set = record { name = set_name set.name; body = body_of set.kind (kept set) }
 
 -- one for each ipset, in order of their names
-pub record AreSetsOf (config : Config) (sets : List NfSet) : Type 0 where
-  pub all : IsPermutation (map set_of config.ipsets) sets
+pub record HaveSets (ipsets : List IpSet) (sets : List NfSet) : Type 0 where
+  pub all : IsPermutation (map set_of ipsets) sets
   pub sorted : IsOrdered (λ (set : NfSet). set.name) sets
+
+abbrev pub AreSetsOf : Config → List NfSet → Type 0
+AreSetsOf config sets = HaveSets config.ipsets sets

@@ -81,6 +81,11 @@ pub record InputLeads (config : Config) (zones : List Zone) (chains : List Chain
   pub base : BaseLeads config (codes "filter_INPUT") hook.Input input_start chains
   pub zone : (zone : Zone) → IsIn zone zones → HasLeads config (IsInputTarget config zone) (input_start ++ zone.name) chains
 
+-- The chain for what is forwarded from a zone leads to those for the zones that it goes to, and these lead to those of settings.
+pub record PairsLead (config : Config) (zones : List Zone) (from : Zone) (chains : List Chain) : Type 0 where
+  pub first : HasLeads config (IsChainName config (pair_start from.name)) (forward_start ++ from.name) chains
+  pub pairs : (to : Zone) → IsIn to zones → HasLeads config (IsForwardTarget config from to) (pair_start from.name ++ to.name) chains
+
 -- Those at forward: from the first to those of the zones that packets come from, from these to those of the zones that they go to, and
 -- from these to those of settings.
 pub record ForwardLeads (config : Config) (zones : List Zone) (chains : List Chain) : Type 0 where
