@@ -16,10 +16,10 @@ use crate::forward::forward_rules;
 use crate::input::input_rules;
 use crate::names::{joined, pair_start};
 use crate::output::output_rules;
-use crate::rules::one;
 use fw_base::{Memory, Seq, Text};
 use fw_model::{Config, Zone};
 use lower_dispatch::{Direction, dispatch};
+use lower_zone::one;
 use nf_rules::{Base, Chain, ChainKind, Hook, Rule};
 use std::alloc::Global;
 
