@@ -25,9 +25,9 @@ use Rattle.fw_zone.specs.Lists.{IsIn}
 use Rattle.lower_all.specs.Joined.{AreSetsOf, body_of, kept, mac_of, net_of, set_of}
 use Rattle.lower_all.proofs.Among.{left}
 use Rattle.lower_all.proofs.Distinct.{each_of}
-use Rattle.lower_all.proofs.Found.{is_in_again, pairs_head, pairs_tail}
+use Rattle.lower_all.proofs.Found.{is_in_again}
 use Rattle.lower_all.proofs.Named.{sets_apart}
-use Rattle.lower_blocks.proofs.Lists.{in_map}
+use Rattle.lower_blocks.proofs.Lists.{in_map, pairs_head, pairs_tail}
 use Rattle.lower_match.specs.Lowers.{EachStands, StandsFor, set_name}
 use Rattle.nf_eval.specs.Sets.{has_address, has_mac, holds_address, holds_mac}
 use Rattle.nf_eval.specs.Tests.{is_from_set}
