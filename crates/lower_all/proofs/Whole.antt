@@ -1,7 +1,7 @@
 -- The whole compiler: its rulesets can be installed, and do with every packet what the settings say.
 use Rattle.std.proofs.Common.{◌≡◌, ◌≢◌, ◌∙◌, ℕ, Bool, true, false, List, [], ◌∷◌, map, Option, None, Some, inl, inr, refl, sym, ap, subst, arith, Decides}
 use Rattle.std.proofs.lemmas.Slice.Eq.{bytes_eq-Decides}
-use Rattle.std.specs.Prelude.{IfOk, IsSome, Result, Ok, Err, if◌then◌else◌}
+use Rattle.std.specs.Prelude.{IsSome, if◌then◌else◌}
 use Rattle.std.specs.List.{AllPairs}
 use Rattle.std.specs.Str.{bytes_eq}
 use Rattle.fw_hits.specs.Bindings.{default_zone}
@@ -73,14 +73,3 @@ compiled_compiles way one_runs acting rules runtime made valid no_panic =
       sound = is_sound runtime.config rules parts acting (in_order runtime.config rules made valid) made.no_map;
       outcomes = way rules runtime no_panic (all_works runtime.config rules parts acting one_runs);
     }
-
--- what the compiler gives, if anything
-pub each_compiles : {E : Type 0} → HooksLeadTheWay → OneRunsAtEach → ActingPoliciesAreTold
-    → (runtime : Runtime)
-    → IsValid runtime.config
-    → runtime.panic ≡ false
-    → (result : Result Ruleset E)
-    → IfOk result (IsCompiled runtime.config)
-    → IfOk result (λ rules. Compiles rules runtime)
-each_compiles way one_runs acting runtime valid no_panic (Ok rules) made = compiled_compiles way one_runs acting rules runtime made valid no_panic
-each_compiles way one_runs acting runtime valid no_panic (Err error) made = tt
