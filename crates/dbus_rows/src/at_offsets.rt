@@ -115,7 +115,8 @@ pub fn again_told(alloc: Global, words: &str) -> Result<String> {
     )?;
     let of_big = offsets_again(alloc, &signature, alignment, big.as_slice(), Endian::Big)?;
     let not_zero = not_zero(alloc, &signature, alignment, little.as_slice())?;
-    Ok(
-        format!(in alloc; "at {of_little} and {of_big} offsets, and {}", not_zero.as_str())?,
-    )
+    Ok(format!(in alloc;
+        "at {of_little} and {of_big} offsets, and {}",
+        not_zero.as_str()
+    )?)
 }

@@ -26,7 +26,11 @@ fn fed(alloc: Global, bytes: &[u8], size: usize) -> Came {
 }
 
 fn shown(alloc: Global, came: Came) -> Result<String> {
-    let held = if came.2 { "nothing held" } else { "a front held" };
+    let held = if came.2 {
+        "nothing held"
+    } else {
+        "a front held"
+    };
     Ok(format!(in alloc; "{} messages, {:?}, {held}", came.0, came.1)?)
 }
 

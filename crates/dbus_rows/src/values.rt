@@ -7,7 +7,9 @@ use std::alloc::Global;
 
 /// The word before the next space, and what is behind it.
 pub fn next_word(words: &str) -> Result<(&str, &str)> {
-    words.split_once(' ').ok_or_else(|| anyhow!("too few words"))
+    words
+        .split_once(' ')
+        .ok_or_else(|| anyhow!("too few words"))
 }
 
 /// `little` or `big`.

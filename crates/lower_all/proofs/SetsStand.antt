@@ -25,9 +25,9 @@ use Rattle.fw_zone.specs.Lists.{IsIn}
 use Rattle.lower_all.specs.Joined.{AreSetsOf, body_of, kept, mac_of, net_of, set_of}
 use Rattle.lower_all.proofs.Among.{left}
 use Rattle.lower_all.proofs.Distinct.{each_of}
-use Rattle.lower_all.proofs.Found.{is_in_again, pairs_head, pairs_tail}
+use Rattle.lower_all.proofs.Found.{is_in_again}
 use Rattle.lower_all.proofs.Named.{sets_apart}
-use Rattle.lower_blocks.proofs.Lists.{in_map}
+use Rattle.lower_blocks.proofs.Lists.{in_map, pairs_head, pairs_tail}
 use Rattle.lower_match.specs.Lowers.{EachStands, StandsFor, set_name}
 use Rattle.nf_eval.specs.Sets.{has_address, has_mac, holds_address, holds_mac}
 use Rattle.nf_eval.specs.Tests.{is_from_set}
@@ -62,7 +62,7 @@ one_says asked (first ∷ others) set apart (inl same) =
     subst (λ (one : NfSet). list_any (λ (it : NfSet). bytes_eq it.name one.name && asked it) (first ∷ others) ≡ asked one) same
     (ap (λ (hit : Bool). (hit && asked first) || list_any (λ (it : NfSet). bytes_eq it.name first.name && asked it) others) (same_name first.name)
     ∙ ap (λ (rest : Bool). asked first || rest)
-      (others_say_nothing asked first.name others (λ other there is. pairs_head (λ (one other : NfSet). one.name ≢ other.name) first others apart other there (sym is)))
+    (others_say_nothing asked first.name others (λ other there is. pairs_head (λ (one other : NfSet). one.name ≢ other.name) first others apart other there (sym is)))
     ∙ or_false (asked first))
 one_says asked (first ∷ others) set apart (inr there) =
     ap (λ (hit : Bool). (hit && asked first) || list_any (λ (it : NfSet). bytes_eq it.name set.name && asked it) others) (unlike (bytes_eq first.name set.name) refl)
@@ -136,7 +136,7 @@ nets_held of address items each =
 held_by : (timeout : Bool) (held : SetKind) (of : Family) (items : List Item) (address : Addr) (mac : Option ℕ)
     → ((it : Item) → IsIn it items → may_hold held of it ≡ true)
     → (not timeout && entries_hold held of items address mac)
-      ≡ (has_address address (body_of held (if timeout then [] else items)) || body_from mac (body_of held (if timeout then [] else items)))
+    ≡ (has_address address (body_of held (if timeout then [] else items)) || body_from mac (body_of held (if timeout then [] else items)))
 held_by true kind.Ip of items address None fit = refl
 held_by true kind.Ip of items address (Some mac) fit = refl
 held_by true kind.Net of items address None fit = refl
@@ -155,8 +155,8 @@ sets_stand config sets are named each ipset listed address mac =
     held_by ipset.timeout ipset.kind ipset.family ipset.items address mac
     (each_of (λ (it : Item). IsTrue (fits ipset it)) ipset.items (each_of IsSet config.ipsets each ipset listed).items_fit)
     ∙ sym
-      (ap (λ (hit : Bool). hit || is_from_set sets (set_name ipset.name) mac) (one_says (λ (set : NfSet). has_address address set.body) sets (set_of ipset) apart there)
-      ∙ ap (λ (hit : Bool). has_address address (set_of ipset).body || hit) (from mac))
+    (ap (λ (hit : Bool). hit || is_from_set sets (set_name ipset.name) mac) (one_says (λ (set : NfSet). has_address address set.body) sets (set_of ipset) apart there)
+    ∙ ap (λ (hit : Bool). has_address address (set_of ipset).body || hit) (from mac))
   where
     apart : AllPairs (λ (one other : NfSet). one.name ≢ other.name) sets
     apart = sets_apart config sets are named

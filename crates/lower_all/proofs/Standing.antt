@@ -110,7 +110,7 @@ module _ (config : Config) (rules : Ruleset) (parts : HasParts config rules) whe
   settings_hold chain among =
       let found = of_some_block config (all_told config (used_zones config)) parts.joined.settings parts.joined.blocks chain among in
       let there : (one : Chain) → IsIn one found.block → chain_of rules.chains one.name ≡ Some one =
-          λ one is. parts.found one (in_settings config rules parts one (found.among one is)) in
+      λ one is. parts.found one (in_settings config rules parts one (found.among one is)) in
       record {
         stand = each_of_all (λ (one : Chain). list_all (rule_stands rules) one.rules) found.block (found.is.stands.stand rules there parts.has_sets) chain found.chain_in;
         short = λ links path. (let few = found.is.stands.short rules there chain found.chain_in links path in omega arith);
@@ -165,9 +165,9 @@ module _ (config : Config) (rules : Ruleset) (parts : HasParts config rules) whe
         of_zones there =
             of_map (Named rules chain) (λ (zone : Zone). input_start ++ zone.name) (used_zones config)
             (λ zone is same.
-                let has = parts.joined.input_leads.zone zone is in
-                known 5 (chain_named (input_start ++ zone.name) has.rules) chain (in_inputs config rules parts _ has.there) (in_inputs config rules parts chain among)
-                (holds_more rules 3 5 _ (omega arith) (input_zone zone is)) same)
+            let has = parts.joined.input_leads.zone zone is in
+            known 5 (chain_named (input_start ++ zone.name) has.rules) chain (in_inputs config rules parts _ has.there) (in_inputs config rules parts chain among)
+            (holds_more rules 3 5 _ (omega arith) (input_zone zone is)) same)
             chain.name there refl
 
         by : IsIn chain.name (codes "filter_INPUT" ∷ zone_names input_start (used_zones config)) → Holds rules 5 chain
@@ -203,9 +203,9 @@ module _ (config : Config) (rules : Ruleset) (parts : HasParts config rules) whe
         of_zones there =
             of_map (Named rules chain) (λ (zone : Zone). output_start ++ zone.name) (used_zones config)
             (λ zone is same.
-                let has = parts.joined.output_leads.zone zone is in
-                known 5 (chain_named (output_start ++ zone.name) has.rules) chain (in_outputs config rules parts _ has.there) (in_outputs config rules parts chain among)
-                (holds_more rules 3 5 _ (omega arith) (output_zone zone is)) same)
+            let has = parts.joined.output_leads.zone zone is in
+            known 5 (chain_named (output_start ++ zone.name) has.rules) chain (in_outputs config rules parts _ has.there) (in_outputs config rules parts chain among)
+            (holds_more rules 3 5 _ (omega arith) (output_zone zone is)) same)
             chain.name there refl
 
         by : IsIn chain.name (codes "filter_OUTPUT" ∷ zone_names output_start (used_zones config)) → Holds rules 5 chain
@@ -255,9 +255,9 @@ module _ (config : Config) (rules : Ruleset) (parts : HasParts config rules) whe
         of_pairs from is_from name there =
             of_map (Named rules chain) (λ (zone : Zone). pair_start from.name ++ zone.name) (used_zones config)
             (λ zone is same.
-                let has = parts.joined.forward_leads.pair from zone is_from is in
-                known 5 (chain_named (pair_start from.name ++ zone.name) has.rules) chain (in_forwards config rules parts _ has.there) (in_forwards config rules parts chain among)
-                (holds_more rules 3 5 _ (omega arith) (pair_holds from zone is_from is)) same)
+            let has = parts.joined.forward_leads.pair from zone is_from is in
+            known 5 (chain_named (pair_start from.name ++ zone.name) has.rules) chain (in_forwards config rules parts _ has.there) (in_forwards config rules parts chain among)
+            (holds_more rules 3 5 _ (omega arith) (pair_holds from zone is_from is)) same)
             name there
 
         of_from : (from : Zone) → IsIn from (used_zones config) → (name : List ℕ) → IsIn name (from_names (used_zones config) from) → Named rules chain name

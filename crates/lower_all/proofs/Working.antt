@@ -55,15 +55,15 @@ module _ (config : Config) (rules : Ruleset) (parts : HasParts config rules) whe
   are_bases =
       each_chain config rules parts
       (λ chain. (chain.base ≡ None)
-          ⊎ ((chain ≡ base_chain (codes "filter_INPUT") hook.Input parts.joined.input.rules)
-          ⊎ ((chain ≡ base_chain (codes "filter_FORWARD") hook.Forward parts.joined.forward.rules)
-          ⊎ (chain ≡ base_chain (codes "filter_OUTPUT") hook.Output parts.joined.output.rules))))
-      (λ chain among. elim (parts.joined.input.base.only chain among) [ | inl same ↦ inr (inl (sym same)) | inr plain ↦ inl plain ])
-      (λ chain among. elim (parts.joined.forward.base.only chain among) [ | inl same ↦ inr (inr (inl (sym same))) | inr plain ↦ inl plain ])
-      (λ chain among. elim (parts.joined.output.base.only chain among) [ | inl same ↦ inr (inr (inr (sym same))) | inr plain ↦ inl plain ])
+      ⊎ ((chain ≡ base_chain (codes "filter_INPUT") hook.Input parts.joined.input.rules)
+      ⊎ ((chain ≡ base_chain (codes "filter_FORWARD") hook.Forward parts.joined.forward.rules)
+      ⊎ (chain ≡ base_chain (codes "filter_OUTPUT") hook.Output parts.joined.output.rules))))
+      (λ chain among. elim (parts.joined.input.base.only chain among) [ inl same ↦ inr (inl (sym same)) | inr plain ↦ inl plain ])
+      (λ chain among. elim (parts.joined.forward.base.only chain among) [ inl same ↦ inr (inr (inl (sym same))) | inr plain ↦ inl plain ])
+      (λ chain among. elim (parts.joined.output.base.only chain among) [ inl same ↦ inr (inr (inr (sym same))) | inr plain ↦ inl plain ])
       (λ chain among.
-          let found = of_some_block config (all_told config (used_zones config)) parts.joined.settings parts.joined.blocks chain among in
-          inl (found.is.stands.no_base chain found.chain_in))
+      let found = of_some_block config (all_told config (used_zones config)) parts.joined.settings parts.joined.blocks chain among in
+      inl (found.is.stands.no_base chain found.chain_in))
 
   module _ (acting : ActingPoliciesAreTold) where
     policies_stand : (at : Stage) (from to : End) → IsEnd (used_zones config) from → IsEnd (used_zones config) to

@@ -60,7 +60,7 @@ fn compiled(alloc: Global, runtime: &Runtime) -> Result<Ruleset, Memory>
 impl Compiler for Nft {
     ghost use Rattle.lower_all.specs.Compiled.{IsCompiled};
 
-    ghost makes: { λ compiler runtime rules. IsCompiled runtime.config rules };
+    ghost makes = { λ compiler runtime rules. IsCompiled runtime.config rules };
 
     fn compile(&self, alloc: Global, runtime: &Runtime) -> Result<Ruleset, Memory> {
         hooks_lead_the_way();

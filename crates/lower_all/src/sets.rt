@@ -81,7 +81,7 @@ fn listed(alloc: Global, ipsets: &[IpSet]) -> Result<Vec<NfSet>, Memory>
 
 /// Sets in order of their names.
 fn by_name(sets: Vec<NfSet>) -> Result<Seq<NfSet>, Memory>
-    ensures moved { IfOk result (λ ordered. IsPermutation sets.entry.items ordered) }
+    ensures moved { IfOk result (λ ordered. IsPermutation sets.items ordered) }
     ensures sorted { IfOk result (λ ordered. IsOrdered (λ (set : NfSet). set.name) ordered) }
 {
     let mut ordered = sets;

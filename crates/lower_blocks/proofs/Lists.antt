@@ -71,7 +71,7 @@ from_map f other (first ∷ others) (inr there) =
     let rest = from_map f other others there in
     (rest.0, inr rest.1, rest.2)
 
--- what passes is kept
+-- what passes is kept, and what is kept was there
 pub kept_in : {A : Type 0} (passes : A → Bool) (item : A) (items : List A) → IsIn item items → passes item ≡ true → IsIn item (filter passes items)
 kept_in passes item [] there is = absurd there
 kept_in passes item (first ∷ others) there is = by (passes first) refl there (λ behind. kept_in passes item others behind is)
@@ -82,6 +82,16 @@ kept_in passes item (first ∷ others) there is = by (passes first) refl there (
     by true does (inr there) rest = inr (rest there)
     by false does (inl same) rest = let never : true ≡ false = sym is ∙ ap passes (sym same) ∙ does in cc
     by false does (inr there) rest = rest there
+
+pub was_in : {A : Type 0} (passes : A → Bool) (item : A) (items : List A) → IsIn item (filter passes items) → IsIn item items
+was_in passes item [] there = absurd there
+was_in passes item (first ∷ others) there = by (passes first) there (was_in passes item others)
+  where
+    by : (b : Bool) → IsIn item (if b then first ∷ filter passes others else filter passes others) → (IsIn item (filter passes others) → IsIn item others)
+        → IsIn item (first ∷ others)
+    by true (inl same) rest = inl same
+    by true (inr there) rest = inr (rest there)
+    by false there rest = inr (rest there)
 
 -- of joined lists
 
