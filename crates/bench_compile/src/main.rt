@@ -146,6 +146,14 @@ fn worked(alloc: Global, runtime: &Runtime, work: &str, count: u64) -> Result<St
     }
 }
 
+/// The same, where the settings are valid.
+fn worked_if_valid(alloc: Global, runtime: &Runtime, work: &str, count: u64) -> Result<String> {
+    if runtime.panic || broken_rule(&runtime.config).is_some() {
+        return Err(anyhow!("the settings aren't valid"));
+    }
+    worked(alloc, runtime, work, count)
+}
+
 fn main(rt: HostRuntime) -> Result<()> {
     let alloc = rt.alloc();
     let mut words = env::args(&rt)?.skip(1);
@@ -153,10 +161,7 @@ fn main(rt: HostRuntime) -> Result<()> {
         return Err(anyhow!("how often, what, and over how many ports?"));
     };
     let runtime = settings(alloc, size.as_str().parse::<u64>()?)?;
-    if runtime.panic || broken_rule(&runtime.config).is_some() {
-        return Err(anyhow!("the settings aren't valid"));
-    }
-    let text = worked(
+    let text = worked_if_valid(
         alloc,
         &runtime,
         work.as_str(),
