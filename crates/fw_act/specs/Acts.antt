@@ -61,6 +61,11 @@ abbrev pub Reads : {X : Type 0} → Result X Stop → Result X Refusal → Type 
 Reads (Ok x) wanted = wanted ≡ Ok x
 Reads (Err stop) wanted = Stops stop wanted
 
+-- What an edit that names what it refuses made of the settings: what it is to make of them, its refusal, or want of memory.
+abbrev pub Makes : {S : Type 0} → (new : S) → Result (Unit {0}) Stop → Result S Refusal → Type 0
+Makes new (Ok done) wanted = wanted ≡ Ok new
+Makes new (Err stop) wanted = Stops stop wanted
+
 -- What a member did: what it is to answer and to make of the settings; its refusal; or want of memory.
 abbrev pub Acts : {S : Type 0} → (new : S) → Result Answer Stop → Result (Answered S) Refusal → Type 0
 Acts new (Ok answer) wanted = wanted ≡ Ok (record { signals = answer.signals; reply = answer.reply; after = new })
