@@ -2,3 +2,4 @@ pub mod Entries
 pub mod Items
 pub mod Members
 pub mod Sets
+pub mod Told

@@ -1,11 +1,13 @@
 //! Calls on one entry of an ipset.
 ghost use Rattle.std.specs.Prelude.{◌≡◌, [], ◌∷◌, false, IfOk, OnErr};
-ghost use Rattle.fw_act.specs.Acts.{Acts};
+ghost use Rattle.fw_act.specs.Acts.{Acts, Makes, refused_as};
 ghost use Rattle.fw_calls.specs.declared.reply.Reply.TheVariants as reply;
 ghost use Rattle.fw_ipset_members.specs.Entries.{entry_answered, entry_call, entry_signal};
+ghost use Rattle.fw_ipset_members.specs.Items.{added, item_text, removed};
 
 use super::edits::{add_to, holds, remove_from};
 use super::items::{item_text, read_entry};
+use super::told::answer_after;
 use fw_act::{Answer, EditError, Stop, refuse, replied, told};
 use fw_base::{Memory, Seq, Text};
 use fw_calls::{Arg, Reply, Signal, SignalKind, Verb};
@@ -30,13 +32,9 @@ fn add_entry(alloc: Global, set: &mut IpSet, item: Item) -> Result<Answer, Stop>
     ensures acts { Acts set.new result (entry_answered set.old Verb.Add item) }
     ensures err { OnErr result (set.new ≡ set.old) }
 {
-    let text = item_text(alloc, &item)?;
     let answer = entry_told(alloc, SignalKind::IpsetEntryAdded, set, &item)?;
-    match add_to(set, item) {
-        Ok(()) => Ok(answer),
-        Err(EditError::Refused(code)) => { Err(Stop::Refused(refuse(alloc, code, text.as_str())?)) }
-        Err(EditError::Memory) => Err(Stop::Memory),
-    }
+    let added = add_or_refuse(alloc, set, item);
+    answer_after(added, answer)
 }
 
 fn remove_entry(alloc: Global, set: &mut IpSet, item: Item) -> Result<Answer, Stop>
@@ -44,11 +42,37 @@ fn remove_entry(alloc: Global, set: &mut IpSet, item: Item) -> Result<Answer, St
     ensures acts { Acts set.new result (entry_answered set.old Verb.Remove item) }
     ensures err { OnErr result (set.new ≡ set.old) }
 {
-    let text = item_text(alloc, &item)?;
     let answer = entry_told(alloc, SignalKind::IpsetEntryRemoved, set, &item)?;
-    match remove_from(set, &item) {
-        Ok(()) => Ok(answer),
+    let removed = remove_or_refuse(alloc, set, item);
+    answer_after(removed, answer)
+}
+
+/// Adds an item. A refusal names its canonical text.
+fn add_or_refuse(alloc: Global, set: &mut IpSet, item: Item) -> Result<(), Stop>
+    requires { set.old.timeout ≡ false }
+    ensures makes { Makes set.new result (refused_as (item_text item) (added set.old item)) }
+    ensures err { OnErr result (set.new ≡ set.old) }
+{
+    let text = item_text(alloc, &item)?;
+    match add_to(set, item) {
+        Ok(()) => Ok(()),
         Err(EditError::Refused(code)) => { Err(Stop::Refused(refuse(alloc, code, text.as_str())?)) }
+        Err(EditError::Memory) => Err(Stop::Memory),
+    }
+}
+
+/// Takes an item out. A refusal names its canonical text.
+fn remove_or_refuse(alloc: Global, set: &mut IpSet, item: Item) -> Result<(), Stop>
+    requires { set.old.timeout ≡ false }
+    ensures makes { Makes set.new result (refused_as (item_text item) (removed set.old item)) }
+    ensures err { OnErr result (set.new ≡ set.old) }
+{
+    match remove_from(set, &item) {
+        Ok(()) => Ok(()),
+        Err(EditError::Refused(code)) => {
+            let text = item_text(alloc, &item)?;
+            Err(Stop::Refused(refuse(alloc, code, text.as_str())?))
+        }
         Err(EditError::Memory) => Err(Stop::Memory),
     }
 }

@@ -9,5 +9,6 @@ mod items;
 mod member;
 mod replace;
 mod texts;
+mod told;
 
 pub use member::ipset_member;

@@ -84,7 +84,7 @@ fn set_entries_in(
 /// The entries of an ipset, also of one whose entries come with a timeout.
 #[tactic(auto, unfolding(crate::specs::Members::ipset_member))]
 fn entries_of(alloc: Global, settings: &Settings, name: &str) -> Result<Answer, Stop>
-    ensures { Acts settings.now result (ipset_member settings.now (calls.Entries name.now)) }
+    ensures { Acts settings.entry.now result (ipset_member settings.entry.now (calls.Entries name.now)) }
 {
     let found = find_set(alloc, &settings.runtime.config, name)?;
     let texts = item_texts(alloc, found.set.items.as_slice())?;

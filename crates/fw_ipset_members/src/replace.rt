@@ -1,12 +1,14 @@
 //! The call that replaces all entries of an ipset.
-ghost use Rattle.std.specs.Prelude.{◌≡◌, ◌++◌, map, IfOk, OnErr, OnOk};
+ghost use Rattle.std.specs.Prelude.{◌≡◌, ◌++◌, false, map, Err, IfOk, OnErr, OnOk};
 ghost use Rattle.fw_act.specs.Acts.{Acts};
+ghost use Rattle.fw_ipset.specs.Entries.{with_items};
 ghost use Rattle.fw_ipset_members.specs.Entries.{entry_signal, set_entries, set_signals};
 ghost use Rattle.fw_ipset_members.specs.Items.{each_once, none_of};
 
 use super::edits::replace_with;
 use super::entries::entry_signal;
 use super::items::read_entries;
+use super::told::answer_after;
 use fw_act::{Answer, Stop, refuse};
 use fw_base::{Memory, Seq, Text};
 use fw_ipset::{keep_once, lacking};
@@ -25,11 +27,22 @@ pub fn set_entries(alloc: Global, set: &mut IpSet, texts: &[Text]) -> Result<Ans
     }
     let items = read_entries(alloc, set, texts)?;
     let signals = set_signals(alloc, set, items.as_slice())?;
+    let answer = Answer {
+        signals,
+        reply: Reply::None,
+    };
+    let replaced = replace_or_stop(alloc, set, items);
+    answer_after(replaced, answer)
+}
+
+fn replace_or_stop(alloc: Global, set: &mut IpSet, items: Seq<Item>) -> Result<(), Stop>
+    requires { set.old.timeout ≡ false }
+    ensures makes { OnOk result (set.new ≡ with_items set.old (each_once items)) }
+    ensures memory { OnErr result (result ≡ Err Stop.Memory) }
+    ensures err { OnErr result (set.new ≡ set.old) }
+{
     match replace_with(alloc, set, items) {
-        Ok(()) => Ok(Answer {
-            signals,
-            reply: Reply::None,
-        }),
+        Ok(()) => Ok(()),
         Err(_) => Err(Stop::Memory),
     }
 }

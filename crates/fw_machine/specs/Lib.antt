@@ -1,7 +1,1 @@
 pub mod Proposals
-pub mod RootChanging
-pub mod RootLogDenied
-pub mod RootNumbering
-pub mod RootReloading
-pub mod TimeLinks
-pub mod TimeTicks

@@ -4,3 +4,4 @@ pub mod Inversion
 pub mod Reading
 pub mod RichRules
 pub mod Settings
+pub mod Told

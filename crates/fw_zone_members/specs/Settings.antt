@@ -14,6 +14,7 @@ use Rattle.fw_timed.specs.Timers.{without_timers}
 use Rattle.fw_zone_edits.specs.Settings.{added_at, has, removed_at}
 use Rattle.fw_zone_edits.specs.Signals.{added_signal, removed_signal}
 use Rattle.fw_zone_edits.specs.Texts.{setting_text}
+use Rattle.fw_zone_edits.specs.Zones.{Found}
 use Rattle.fw_zone_members.specs.Reading.{look_up, seconds_of, setting_of}
 
 -- the timer of a setting that came, unless it stays for good
@@ -25,24 +26,34 @@ unfoldable pub with_timer : List Timed → Option Timed → List Timed
 with_timer timers None = timers
 with_timer timers (Some timed) = timers ++ timed ∷ []
 
+-- the settings after one came to the zone that was found, with its timer
+unfoldable pub with_found : Settings → Found → (seconds : ℕ) → Setting → Result Settings Refusal
+with_found settings found seconds setting = do
+  zones ← refused_as (setting_text setting) (added_at settings.runtime.config.zones found setting)
+  Ok (with_timers (with_zones settings zones) (with_timer settings.timers (timer settings.now found.zone.name setting seconds)))
+
 -- `addX(zone, arguments, timeout)`
 unfoldable pub add_setting : Settings → (zone : List ℕ) → (timeout : ℤ) → SettingWords → Result (Answered Settings) Refusal
 add_setting settings zone timeout words = do
   found ← look_up settings.runtime.config zone
   seconds ← seconds_of timeout
   setting ← setting_of settings.runtime.config words
-  zones ← refused_as (setting_text setting) (added_at settings.runtime.config.zones found setting)
-  Ok (changed (added_signal found.zone.name setting timeout) (reply.Text found.zone.name)
-      (with_timers (with_zones settings zones) (with_timer settings.timers (timer settings.now found.zone.name setting seconds))))
+  after ← with_found settings found seconds setting
+  Ok (changed (added_signal found.zone.name setting timeout) (reply.Text found.zone.name) after)
+
+-- the settings after one went from the zone that was found, with its timer
+unfoldable pub without_found : Settings → Found → Setting → Result Settings Refusal
+without_found settings found setting = do
+  zones ← refused_as (setting_text setting) (removed_at settings.runtime.config.zones found setting)
+  Ok (with_timers (with_zones settings zones) (without_timers found.zone.name setting settings.timers))
 
 -- `removeX(zone, arguments)`
 unfoldable pub remove_setting : Settings → (zone : List ℕ) → SettingWords → Result (Answered Settings) Refusal
 remove_setting settings zone words = do
   found ← look_up settings.runtime.config zone
   setting ← setting_of settings.runtime.config words
-  zones ← refused_as (setting_text setting) (removed_at settings.runtime.config.zones found setting)
-  Ok (changed (removed_signal found.zone.name setting) (reply.Text found.zone.name)
-      (with_timers (with_zones settings zones) (without_timers found.zone.name setting settings.timers)))
+  after ← without_found settings found setting
+  Ok (changed (removed_signal found.zone.name setting) (reply.Text found.zone.name) after)
 
 -- `queryX(zone, arguments)`
 unfoldable pub query_setting : Settings → (zone : List ℕ) → SettingWords → Result (Answered Settings) Refusal

@@ -17,7 +17,7 @@ use std::alloc::Global;
 
 /// `getZones`: the names of the zones in force, as they are listed.
 pub fn zones_member(alloc: Global, settings: &Settings) -> Result<Answer, Memory>
-    ensures { IfOk result (λ answer. zones_member settings.now ≡ record { signals = answer.signals; reply = answer.reply; after = settings.now }) }
+    ensures { IfOk result (λ answer. zones_member settings.entry.now ≡ record { signals = answer.signals; reply = answer.reply; after = settings.entry.now }) }
 {
     let names = zone_names(alloc, settings.runtime.config.zones.as_slice())?;
     Ok(replied(alloc, Reply::Texts(names)))
@@ -25,7 +25,7 @@ pub fn zones_member(alloc: Global, settings: &Settings) -> Result<Answer, Memory
 
 /// `getActiveZones`: the zones in force to which packets belong by bindings, as they are listed.
 pub fn active_zones_member(alloc: Global, settings: &Settings) -> Result<Answer, Memory>
-    ensures { IfOk result (λ answer. active_zones_member settings.now ≡ record { signals = answer.signals; reply = answer.reply; after = settings.now }) }
+    ensures { IfOk result (λ answer. active_zones_member settings.entry.now ≡ record { signals = answer.signals; reply = answer.reply; after = settings.entry.now }) }
 {
     let zones = active_zones(alloc, settings.runtime.config.zones.as_slice())?;
     Ok(replied(alloc, Reply::ActiveZones(zones)))
@@ -38,7 +38,7 @@ pub fn zone_settings_member(
     settings: &Settings,
     zone: &str,
 ) -> Result<Answer, Stop>
-    ensures { Acts settings.now result (zone_settings_member settings.now zone.now) }
+    ensures { Acts settings.entry.now result (zone_settings_member settings.entry.now zone.now) }
 {
     let found = find_zone(alloc, &settings.runtime.config, zone)?;
     let zone = found.zone.copy(alloc)?;

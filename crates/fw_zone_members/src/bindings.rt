@@ -8,7 +8,7 @@ ghost use Rattle.fw_zone_members.specs.Bindings.{add_binding, binding_member, ch
 use super::edits::{bind_at, move_at, unbind_at};
 use super::entry::read_entry;
 use super::reading::find_zone;
-use super::told::told_of;
+use super::told::{answer_after, told_of};
 use fw_act::{Answer, Stop, replied};
 use fw_base::Text;
 use fw_calls::{BindingVerb, BindingWord, Reply};
@@ -49,20 +49,16 @@ fn add_binding(
     ensures acts { Acts settings.new result (add_binding settings.old zone.now word.now) }
     ensures err { OnErr result (settings.new ≡ settings.old) }
 {
-    let found = find_zone(alloc, &settings.runtime.config, zone)?;
-    let entry = read_entry(alloc, settings.runtime.config.ipsets.as_slice(), word)?;
+    let config = &settings.runtime.config;
+    let found = find_zone(alloc, config, zone)?;
+    let entry = read_entry(alloc, config.ipsets.as_slice(), word)?;
     let name = found.zone.name.as_str();
     let signal = entry_signal(alloc, bound_kind(&entry), name, &entry)?;
     let answer = told_of(alloc, name, signal)?;
     let place = found.place;
-    bind_at(
-        alloc,
-        &mut settings.runtime.config.zones,
-        place,
-        entry,
-        word.text.as_str(),
-    )?;
-    Ok(answer)
+    let zones = &mut settings.runtime.config.zones;
+    let bound = bind_at(alloc, zones, place, entry, word.text.as_str());
+    answer_after(bound, answer)
 }
 
 #[tactic(auto, unfolding(crate::specs::Bindings::remove_binding))]
@@ -75,20 +71,16 @@ fn remove_binding(
     ensures acts { Acts settings.new result (remove_binding settings.old zone.now word.now) }
     ensures err { OnErr result (settings.new ≡ settings.old) }
 {
-    let found = find_zone(alloc, &settings.runtime.config, zone)?;
-    let entry = read_entry(alloc, settings.runtime.config.ipsets.as_slice(), word)?;
+    let config = &settings.runtime.config;
+    let found = find_zone(alloc, config, zone)?;
+    let entry = read_entry(alloc, config.ipsets.as_slice(), word)?;
     let name = found.zone.name.as_str();
     let signal = entry_signal(alloc, unbound_kind(&entry), name, &entry)?;
     let answer = told_of(alloc, name, signal)?;
     let place = found.place;
-    unbind_at(
-        alloc,
-        &mut settings.runtime.config.zones,
-        place,
-        &entry,
-        word.text.as_str(),
-    )?;
-    Ok(answer)
+    let zones = &mut settings.runtime.config.zones;
+    let unbound = unbind_at(alloc, zones, place, &entry, word.text.as_str());
+    answer_after(unbound, answer)
 }
 
 #[tactic(auto, unfolding(crate::specs::Bindings::query_binding))]
@@ -98,10 +90,11 @@ fn query_binding(
     zone: &str,
     word: &BindingWord,
 ) -> Result<Answer, Stop>
-    ensures { Acts settings.now result (query_binding settings.now zone.now word.now) }
+    ensures { Acts settings.entry.now result (query_binding settings.entry.now zone.now word.now) }
 {
-    let found = find_zone(alloc, &settings.runtime.config, zone)?;
-    let entry = read_entry(alloc, settings.runtime.config.ipsets.as_slice(), word)?;
+    let config = &settings.runtime.config;
+    let found = find_zone(alloc, config, zone)?;
+    let entry = read_entry(alloc, config.ipsets.as_slice(), word)?;
     let is_listed = entry.is_listed(found.zone);
     Ok(replied(alloc, Reply::Bool(is_listed)))
 }
@@ -116,8 +109,9 @@ fn change_binding(
     ensures acts { Acts settings.new result (change_binding settings.old zone.now word.now) }
     ensures err { OnErr result (settings.new ≡ settings.old) }
 {
-    let found = find_zone(alloc, &settings.runtime.config, zone)?;
-    let entry = read_entry(alloc, settings.runtime.config.ipsets.as_slice(), word)?;
+    let config = &settings.runtime.config;
+    let found = find_zone(alloc, config, zone)?;
+    let entry = read_entry(alloc, config.ipsets.as_slice(), word)?;
     let name = found.zone.name.as_str();
     let signal = entry_signal(alloc, moved_kind(&entry), name, &entry)?;
     let answer = told_of(alloc, name, signal)?;
@@ -133,7 +127,7 @@ pub fn zone_of_member(
     settings: &Settings,
     word: &BindingWord,
 ) -> Result<Answer, Stop>
-    ensures { Acts settings.now result (zone_of_member settings.now word.now) }
+    ensures { Acts settings.entry.now result (zone_of_member settings.entry.now word.now) }
 {
     let config = &settings.runtime.config;
     let entry = read_entry(alloc, config.ipsets.as_slice(), word)?;

@@ -83,7 +83,7 @@ fn remove_inversion(alloc: Global, settings: &mut Settings, zone: &str) -> Resul
 
 #[tactic(auto, unfolding(crate::specs::Inversion::inversion_member))]
 fn query_inversion(alloc: Global, settings: &Settings, zone: &str) -> Result<Answer, Stop>
-    ensures { Acts settings.now result (inversion_member settings.now Verb.Query zone.now) }
+    ensures { Acts settings.entry.now result (inversion_member settings.entry.now Verb.Query zone.now) }
 {
     let found = find_zone(alloc, &settings.runtime.config, zone)?;
     Ok(replied(alloc, Reply::Bool(found.zone.inversion)))

@@ -15,8 +15,8 @@ use Rattle.fw_model.specs.declared.config.Config.{Config}
 use Rattle.fw_model.specs.declared.config.LogDenied.{LogDenied}
 use Rattle.fw_settings.specs.Parts.{with_config}
 use Rattle.fw_settings.specs.declared.settings.Settings.{Settings}
-use Rattle.fw_machine.specs.RootLogDenied.{log_denied, log_denied_text, same_log_denied}
-use Rattle.fw_machine.specs.RootReloading.{reloaded}
+use Rattle.fw_root_members.specs.LogDenied.{log_denied, log_denied_text, same_log_denied}
+use Rattle.fw_root_members.specs.Reloading.{reloaded}
 
 -- a signal that carries nothing, and one that carries a text
 abbrev pub plain : SignalKind → Signal
