@@ -25,6 +25,7 @@ use std::alloc::Global;
 ///
 /// Refuses, in this order, an unknown zone, a timeout below 0, an argument, and a setting that is there already or isn't there; the
 /// settings are then as before. An empty zone is the default zone.
+#[tactic(auto, using(crate::proofs::Kept::kept_from))]
 pub fn setting_member(
     alloc: Global,
     settings: &mut Settings,

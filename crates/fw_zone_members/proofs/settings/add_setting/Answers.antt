@@ -8,5 +8,5 @@ use Rattle.fw_zone_members.proofs.settings.add_setting.Goals as goal
 
 pub returns-clause-kept : goal.returns-clause-kept
 returns-clause-kept c =
-    subst (λ (result : Result Answer Stop). Keeps c.args.settings.now c.add_found.new.settings result) (sym c.answer_after.ensures)
-    (kept_after c.args.settings.now c.add_found.new.settings c.add_found.result c.in_ok-answer.answer c.add_found.ensures.kept)
+    subst (λ (result : Result Answer Stop). Keeps c.args.settings.now c.add_found-added.new.settings result) (sym c.answer_after.ensures)
+    (kept_after c.args.settings.now c.add_found-added.new.settings c.add_found-added.result c.in_ok-answer.answer c.add_found-added.ensures.kept)
