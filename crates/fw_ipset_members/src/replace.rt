@@ -11,9 +11,9 @@ use super::items::read_entries;
 use super::told::answer_after;
 use fw_act::{Answer, Stop, refuse};
 use fw_base::{Memory, Seq, Text};
+use fw_calls::{Reply, Signal, SignalKind};
 use fw_ipset::{keep_once, lacking};
 use fw_model::{Code, IpSet, Item};
-use fw_calls::{Reply, Signal, SignalKind};
 use std::alloc::Global;
 
 /// The call that replaces all entries of an ipset.

@@ -18,7 +18,12 @@ pub fn enable_panic_member(alloc: Global, settings: &mut Settings) -> Result<Ans
     ensures acts { Acts settings.new result (enable_panic_member settings.old) }
     ensures err { OnErr result (settings.new ≡ settings.old) }
 {
-    require(alloc, !settings.runtime.panic, Code::AlreadyEnabled, SUBJECT)?;
+    require(
+        alloc,
+        !settings.runtime.panic,
+        Code::AlreadyEnabled,
+        SUBJECT,
+    )?;
     let signal = plain(alloc, SignalKind::RootPanicModeEnabled);
     let answer = told(alloc, signal, Reply::None)?;
     settings.runtime.panic = true;

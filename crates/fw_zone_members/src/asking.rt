@@ -33,11 +33,7 @@ pub fn active_zones_member(alloc: Global, settings: &Settings) -> Result<Answer,
 
 /// `getZoneSettings2`: all settings of a zone in force. Refuses an unknown zone; an empty one is the default zone.
 #[tactic(auto, unfolding(crate::specs::Asking::zone_settings_member))]
-pub fn zone_settings_member(
-    alloc: Global,
-    settings: &Settings,
-    zone: &str,
-) -> Result<Answer, Stop>
+pub fn zone_settings_member(alloc: Global, settings: &Settings, zone: &str) -> Result<Answer, Stop>
     ensures { Acts settings.entry.now result (zone_settings_member settings.entry.now zone.now) }
 {
     let found = find_zone(alloc, &settings.runtime.config, zone)?;

@@ -43,12 +43,7 @@ fn add_inversion(alloc: Global, settings: &mut Settings, zone: &str) -> Result<A
     ensures err { OnErr result (settings.new ≡ settings.old) }
 {
     let found = find_zone(alloc, &settings.runtime.config, zone)?;
-    require(
-        alloc,
-        !found.zone.inversion,
-        Code::AlreadyEnabled,
-        SUBJECT,
-    )?;
+    require(alloc, !found.zone.inversion, Code::AlreadyEnabled, SUBJECT)?;
     let answer = inverted(
         alloc,
         SignalKind::ZoneIcmpBlockInversionAdded,
@@ -65,12 +60,7 @@ fn remove_inversion(alloc: Global, settings: &mut Settings, zone: &str) -> Resul
     ensures err { OnErr result (settings.new ≡ settings.old) }
 {
     let found = find_zone(alloc, &settings.runtime.config, zone)?;
-    require(
-        alloc,
-        found.zone.inversion,
-        Code::NotEnabled,
-        SUBJECT,
-    )?;
+    require(alloc, found.zone.inversion, Code::NotEnabled, SUBJECT)?;
     let answer = inverted(
         alloc,
         SignalKind::ZoneIcmpBlockInversionRemoved,
