@@ -20,6 +20,7 @@ put_back settings found answered = Ok (record { signals = answered.signals; repl
 
 -- the ipset is found, and then the call on it
 found_in : (settings : Settings) (name : List ℕ) (act : IpSet → Result (Answered IpSet) Refusal) (found : Found) (answered : Result (Answered IpSet) Refusal) → look_up settings.runtime.config name ≡ Ok found → act found.set ≡ answered → in_set settings name act ≡ result_and_then (put_back settings found) answered
+unfolding in_set
 found_in settings name act found answered meant is =
     ap (λ (looked : Result Found Refusal). result_and_then (λ one. result_and_then (put_back settings one) (act one.set)) looked) meant
     ∙ ap (λ (done : Result (Answered IpSet) Refusal). result_and_then (put_back settings found) done) is

@@ -16,11 +16,11 @@ use Rattle.fw_ipset_members.specs.Items.{item_text}
 use Rattle.fw_ipset_members.specs.Sets.{Found, is_known, set_named}
 
 -- the ipset that a call names, or its refusal
-abbrev pub look_up : Config → (name : List ℕ) → Result Found Refusal
+unfoldable pub look_up : Config → (name : List ℕ) → Result Found Refusal
 look_up config name = found_or code.InvalidIpset name (set_named config.ipsets name)
 
 -- a call on one ipset
-abbrev pub in_set : Settings → (name : List ℕ) → (IpSet → Result (Answered IpSet) Refusal) → Result (Answered Settings) Refusal
+unfoldable pub in_set : Settings → (name : List ℕ) → (IpSet → Result (Answered IpSet) Refusal) → Result (Answered Settings) Refusal
 in_set settings name act = do
   found ← look_up settings.runtime.config name
   answered ← act found.set

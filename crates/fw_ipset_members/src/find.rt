@@ -17,6 +17,7 @@ pub struct FoundSet<'a> {
 }
 
 /// The ipset that a call names.
+#[tactic(auto, unfolding(crate::specs::Members::look_up))]
 pub fn find_set<'a>(alloc: Global, config: &'a Config, name: &str) -> Result<FoundSet<'a>, Stop>
     ensures found { MatchResult result
         (λ found. look_up config.now name.now ≡ Ok (record { place = found.place; set = found.set.now }))
