@@ -47,6 +47,7 @@ pub fn ipset_member(
     }
 }
 
+#[tactic(auto, unfolding(crate::specs::Members::in_set))]
 fn entry_in(
     alloc: Global,
     settings: &mut Settings,
@@ -67,6 +68,7 @@ fn entry_in(
     )
 }
 
+#[tactic(auto, unfolding(crate::specs::Members::in_set))]
 fn set_entries_in(
     alloc: Global,
     settings: &mut Settings,
