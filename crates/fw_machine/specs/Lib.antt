@@ -1,17 +1,1 @@
-pub mod IpsetEntries
-pub mod IpsetItems
-pub mod IpsetMembers
-pub mod IpsetSets
 pub mod Proposals
-pub mod RootChanging
-pub mod RootLogDenied
-pub mod RootNumbering
-pub mod RootReloading
-pub mod TimeLinks
-pub mod TimeTicks
-pub mod ZoneAsking
-pub mod ZoneBindings
-pub mod ZoneInversion
-pub mod ZoneReading
-pub mod ZoneRichRules
-pub mod ZoneSettings

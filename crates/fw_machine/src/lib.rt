@@ -1,4 +1,3 @@
-//! What the daemon's settings machine answers to calls and events, and what it makes of the settings, as definitions (firewalld.dbus(5)):
-//! the members of the interfaces on zones, on the firewall as a whole and on ipsets, time as it is told, links that come and go, and what
-//! an event proposes. No code stands here yet.
+//! What an event proposes to the daemon, as a definition: the members of fw_zone_members, fw_ipset_members and fw_root_members say what it
+//! answers and makes of the settings. No code stands here yet.
 #![tactic(auto)]

@@ -1,0 +1,5 @@
+pub mod Entries
+pub mod Items
+pub mod Members
+pub mod Sets
+pub mod Told

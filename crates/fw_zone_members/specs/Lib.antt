@@ -1,0 +1,7 @@
+pub mod Asking
+pub mod Bindings
+pub mod Inversion
+pub mod Reading
+pub mod RichRules
+pub mod Settings
+pub mod Told
