@@ -3,9 +3,3 @@ pub mod IpsetItems
 pub mod IpsetMembers
 pub mod IpsetSets
 pub mod Proposals
-pub mod RootChanging
-pub mod RootLogDenied
-pub mod RootNumbering
-pub mod RootReloading
-pub mod TimeLinks
-pub mod TimeTicks

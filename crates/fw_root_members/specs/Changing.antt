@@ -4,6 +4,7 @@ use Rattle.std.specs.Prelude.{ℕ, Bool, true, false, not, codes, List, [], ◌�
 use Rattle.std.specs.List.{list_any}
 use Rattle.std.specs.Str.{bytes_eq}
 use Rattle.fw_act.specs.Acts.{Answered, ◌>>=◌, changed, found_or, replied, required}
+use Rattle.fw_act.specs.declared.answer.Answer.{Answer}
 use Rattle.fw_calls.specs.declared.reply.Refusal.{Refusal}
 use Rattle.fw_calls.specs.declared.reply.Reply.TheVariants as reply
 use Rattle.fw_calls.specs.declared.signal.Arg.TheVariants as arg
@@ -15,8 +16,8 @@ use Rattle.fw_model.specs.declared.config.Config.{Config}
 use Rattle.fw_model.specs.declared.config.LogDenied.{LogDenied}
 use Rattle.fw_settings.specs.Parts.{with_config}
 use Rattle.fw_settings.specs.declared.settings.Settings.{Settings}
-use Rattle.fw_machine.specs.RootLogDenied.{log_denied, log_denied_text, same_log_denied}
-use Rattle.fw_machine.specs.RootReloading.{reloaded}
+use Rattle.fw_root_members.specs.LogDenied.{log_denied, log_denied_text, same_log_denied}
+use Rattle.fw_root_members.specs.Reloading.{reloaded}
 
 -- a signal that carries nothing, and one that carries a text
 abbrev pub plain : SignalKind → Signal
@@ -63,14 +64,21 @@ abbrev pub with_log_denied : Settings → LogDenied → Settings
 with_log_denied settings denied =
     record (with_config settings (record settings.runtime.config { log_denied = denied })) { permanent = record settings.permanent { log_denied = denied } }
 
+-- the signals of this, one behind the other
+abbrev pub log_denied_changed : (value : List ℕ) → Answer
+log_denied_changed value = record {
+  signals = with_text signal.RootLogDeniedChanged value ∷ plain signal.RootReloaded ∷ [];
+  reply = reply.None;
+}
+
 -- `setLogDenied(value)`, which reloads, too
 unfoldable pub set_log_denied_member : Settings → (value : List ℕ) → Result (Answered Settings) Refusal
 set_log_denied_member settings value = do
   denied ← found_or code.InvalidValue value (log_denied value)
   other ← required (not (same_log_denied settings.runtime.config.log_denied denied)) code.AlreadySet value
   Ok (record {
-    signals = with_text signal.RootLogDeniedChanged value ∷ plain signal.RootReloaded ∷ [];
-    reply = reply.None;
+    signals = (log_denied_changed value).signals;
+    reply = (log_denied_changed value).reply;
     after = reloaded (with_log_denied settings denied);
   })
 

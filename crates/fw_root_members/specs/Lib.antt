@@ -1,0 +1,4 @@
+pub mod Changing
+pub mod LogDenied
+pub mod Numbering
+pub mod Reloading
