@@ -1,6 +1,8 @@
 //! Links come and go.
 ghost use Rattle.std.specs.Prelude.{◌≡◌, ◌<◌, [], find, length, position, slice_get, slice_set, true, IfOk, IfSome, MatchOption, None, OnErr, OnOk, Some};
+ghost use Rattle.std.specs.List.{list_any};
 ghost use Rattle.std.specs.Option.{option_copied};
+ghost use Rattle.std.specs.Str.{bytes_eq};
 ghost use Rattle.fw_model.specs.declared.zone.Zone.{Zone};
 ghost use Rattle.fw_time_links.specs.Linking.{comes, goes, has_name, holder_of, home, is_home, link_gone, link_up, linked, some_has};
 ghost use Rattle.fw_zone_edits.specs.Entries.{lists, with_entry, without_entry};
@@ -40,10 +42,14 @@ fn seen(alloc: Global) -> Answer
 fn is_home(in_force: &[Zone], name: &Iface, zone: &Zone) -> bool
     ensures { result ≡ is_home in_force.now name.now zone.now }
 {
-    has_name(name, zone)
-        && in_force
-            .iter()
-            .any(|other| other.name.as_str() == zone.name.as_str())
+    has_name(name, zone) && is_called(in_force, zone.name.as_str())
+}
+
+/// Whether one of some zones has a name.
+fn is_called(zones: &[Zone], name: &str) -> bool
+    ensures { result ≡ list_any (λ zone. bytes_eq zone.name name.now) zones.now }
+{
+    zones.iter().any(|zone| zone.name.as_str() == name)
 }
 
 fn permanent_home<'a>(in_force: &[Zone], permanent: &'a [Zone], name: &Iface) -> Option<&'a Zone>
