@@ -1,5 +1,1 @@
-pub mod IpsetEntries
-pub mod IpsetItems
-pub mod IpsetMembers
-pub mod IpsetSets
 pub mod Proposals
