@@ -59,14 +59,13 @@ fn permanent_home<'a>(in_force: &[Zone], permanent: &'a [Zone], name: &Iface) ->
 }
 
 /// The zone in force that is to have a name, by the permanent settings.
-fn home<'a>(settings: &'a Settings, name: &Iface) -> Option<FoundZone<'a>>
-    ensures found { MatchOption result (home settings.now name.now ≡ None)
-        (λ found. home settings.now name.now ≡ Some (record { place = found.place; zone = found.zone.now })) }
-    ensures at { IfSome result (λ found. slice_get settings.now.runtime.config.zones found.place ≡ Some found.zone.now) }
-    ensures within { IfSome result (λ found. found.place < length settings.now.runtime.config.zones) }
+fn home<'a>(in_force: &'a [Zone], permanent: &[Zone], name: &Iface) -> Option<FoundZone<'a>>
+    ensures found { MatchOption result (home in_force.now permanent.now name.now ≡ None)
+        (λ found. home in_force.now permanent.now name.now ≡ Some (record { place = found.place; zone = found.zone.now })) }
+    ensures at { IfSome result (λ found. slice_get in_force.now found.place ≡ Some found.zone.now) }
+    ensures within { IfSome result (λ found. found.place < length in_force.now) }
 {
-    let in_force = settings.runtime.config.zones.as_slice();
-    let zone = permanent_home(in_force, settings.permanent.zones.as_slice(), name)?;
+    let zone = permanent_home(in_force, permanent, name)?;
     zone_named(in_force, zone.name.as_str())
 }
 
@@ -109,7 +108,8 @@ fn link_up(alloc: Global, settings: &mut Settings, name: &Iface) -> Result<Answe
     if some_has(name, settings.runtime.config.zones.as_slice()) {
         return Ok(seen(alloc));
     }
-    match home(settings, name) {
+    let in_force = settings.runtime.config.zones.as_slice();
+    match home(in_force, settings.permanent.zones.as_slice(), name) {
         Some(found) => {
             let place = found.place;
             come(alloc, settings, place, name)
