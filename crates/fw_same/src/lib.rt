@@ -1,0 +1,9 @@
+//! Whether two configurations are one, part by part: so that what an event changes is known without a trace of it.
+#![tactic(auto)]
+
+mod config;
+mod lists;
+mod objects;
+mod rules;
+
+pub use config::{same_config, same_runtime};
