@@ -2,6 +2,7 @@
 use Rattle.std.proofs.Common.{◌≡◌}
 use Rattle.fw_model.specs.declared.notes.Notes.{Notes}
 use Rattle.fw_model.specs.declared.rules.Rules.{Rules}
+use Rattle.fw_model.specs.declared.setting.Timed.{Timed}
 use Rattle.fw_model.specs.declared.zone.Zone.{Zone}
 use Rattle.fw_model.specs.declared.policy.Policy.{Policy}
 use Rattle.fw_model.specs.declared.service.Service.{Service}
@@ -40,3 +41,7 @@ config_from_fields one other default_zone_is log_denied_is zones_is policies_is 
 pub runtime_from_fields : (one other : Runtime) → one.panic ≡ other.panic → one.config ≡ other.config → one ≡ other
 runtime_from_fields one other panic_is config_is =
     λ i. record { panic = panic_is i; config = config_is i }
+
+pub timed_from_fields : (one other : Timed) → one.zone ≡ other.zone → one.setting ≡ other.setting → one.deadline ≡ other.deadline → one ≡ other
+timed_from_fields one other zone_is setting_is deadline_is =
+    λ i. record { zone = zone_is i; setting = setting_is i; deadline = deadline_is i }

@@ -5,5 +5,7 @@ mod config;
 mod lists;
 mod objects;
 mod rules;
+mod timed;
 
 pub use config::{same_config, same_runtime};
+pub use lists::{SameObject, same_objects};
