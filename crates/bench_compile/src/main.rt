@@ -3,6 +3,8 @@
 //! many ports and rich rules there are; of policies there are a tenth as many. The folder bench/ has the yardstick of `compile`.
 #![tactic(auto)]
 
+ghost use Rattle.std.specs.Prelude.{◌≡◌, false};
+ghost use Rattle.fw_valid.specs.Valid.{IsValid};
 ghost use Rattle.nf_chains.specs.Condition.{FiltersAlone};
 
 use anyhow::{Result, anyhow};
@@ -15,6 +17,7 @@ use fw_verdict::verdict;
 use fw_words::split_words;
 use lower_all::Nft;
 use nf_chains::{eval_verdict, filters_alone};
+use nf_goal::Compiler;
 use nf_rules::Ruleset;
 use std::alloc::Global;
 use std::env;
@@ -62,7 +65,10 @@ fn counted(rules: &Ruleset) -> (usize, usize) {
 }
 
 /// Compiles the settings so often, and tells how many chains and rules come out each time.
-fn compile_often(alloc: Global, runtime: &Runtime, count: u64) -> Result<(usize, usize)> {
+fn compile_often(alloc: Global, runtime: &Runtime, count: u64) -> Result<(usize, usize)>
+    requires valid { IsValid runtime.now.config }
+    requires no_panic { runtime.now.panic ≡ false }
+{
     let mut last = (0, 0);
     for _ in 0..count {
         last = counted(&Nft.compile(alloc, runtime)?);
@@ -115,7 +121,10 @@ fn evaluate_often(rules: &Ruleset, packets: &[Packet], count: u64) -> u64
 }
 
 /// Does the work so often, and gives what is to be printed.
-fn worked(alloc: Global, runtime: &Runtime, work: &str, count: u64) -> Result<String> {
+fn worked(alloc: Global, runtime: &Runtime, work: &str, count: u64) -> Result<String>
+    requires valid { IsValid runtime.now.config }
+    requires no_panic { runtime.now.panic ≡ false }
+{
     let packets = packets(alloc)?;
     match work {
         "compile" => {
@@ -137,6 +146,14 @@ fn worked(alloc: Global, runtime: &Runtime, work: &str, count: u64) -> Result<St
     }
 }
 
+/// The same, where the settings are valid.
+fn worked_if_valid(alloc: Global, runtime: &Runtime, work: &str, count: u64) -> Result<String> {
+    if runtime.panic || broken_rule(&runtime.config).is_some() {
+        return Err(anyhow!("the settings aren't valid"));
+    }
+    worked(alloc, runtime, work, count)
+}
+
 fn main(rt: HostRuntime) -> Result<()> {
     let alloc = rt.alloc();
     let mut words = env::args(&rt)?.skip(1);
@@ -144,10 +161,7 @@ fn main(rt: HostRuntime) -> Result<()> {
         return Err(anyhow!("how often, what, and over how many ports?"));
     };
     let runtime = settings(alloc, size.as_str().parse::<u64>()?)?;
-    if broken_rule(&runtime.config).is_some() {
-        return Err(anyhow!("the settings aren't valid"));
-    }
-    let text = worked(
+    let text = worked_if_valid(
         alloc,
         &runtime,
         work.as_str(),

@@ -1,1 +1,13 @@
-pub mod Extended
+pub mod Among
+pub mod Apart
+pub mod Called
+pub mod Distinct
+pub mod Found
+pub mod Joining
+pub mod Named
+pub mod Parts
+pub mod SetsStand
+pub mod Sorting
+pub mod Standing
+pub mod Whole
+pub mod Working

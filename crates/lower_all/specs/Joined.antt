@@ -1,5 +1,5 @@
 -- Of what the ruleset of a configuration consists.
-use Rattle.std.specs.Prelude.{◌≡◌, ℕ, Bool, true, false, if◌then◌else◌, List, [], ◌∷◌, ◌++◌, map, IsPermutation}
+use Rattle.std.specs.Prelude.{◌≡◌, ℕ, if◌then◌else◌, List, [], ◌∷◌, ◌++◌, codes, map, IsPermutation}
 use Rattle.std.specs.List.{filter, flat_map}
 use Rattle.fw_addr.specs.Subnets.{Subnet}
 use Rattle.fw_model.specs.declared.config.Config.{Config}
@@ -10,7 +10,12 @@ use Rattle.fw_model.specs.declared.ipset.SetKind.{SetKind}
 use Rattle.fw_model.specs.declared.ipset.SetKind.TheVariants as kind
 use Rattle.fw_model.specs.declared.zone.Zone.{Zone}
 use Rattle.lower_dispatch.specs.Uses.{is_in_use}
+use Rattle.lower_all.specs.Ordered.{IsOrdered}
+use Rattle.lower_blocks.specs.Blocks.{AreBlocks}
+use Rattle.lower_blocks.specs.Needed.{all_told}
 use Rattle.lower_hooks.specs.Chains.{ForwardWorks, InputWorks, OutputWorks}
+use Rattle.lower_hooks.specs.Leads.{ForwardLeads, InputLeads, OutputLeads}
+use Rattle.lower_hooks.specs.Names.{forward_names, input_start, names_of, output_start, zone_names}
 use Rattle.lower_match.specs.Lowers.{set_name}
 use Rattle.nf_rules.specs.declared.chain.Chain.{Chain}
 use Rattle.nf_rules.specs.declared.set.NfSet.{NfSet}
@@ -21,7 +26,8 @@ use Rattle.nf_rules.specs.declared.set.SetBody.TheVariants as body
 abbrev pub used_zones : Config → List Zone
 used_zones config = filter (is_in_use config) config.zones
 
--- The chains of the hooks, which do there what is done with packets on their way through the firewall, and others beside them, of settings.
+-- The chains of the hooks, which do there what is done with packets on their way through the firewall, and the chains of the settings to
+-- which they lead; all of them in order of their names.
 pub record AreJoined (config : Config) (chains : List Chain) : Type 0 where
   pub inputs : List Chain
   pub forwards : List Chain
@@ -30,7 +36,15 @@ pub record AreJoined (config : Config) (chains : List Chain) : Type 0 where
   pub input : InputWorks config (used_zones config) inputs
   pub forward : ForwardWorks config (used_zones config) forwards
   pub output : OutputWorks config (used_zones config) outputs
+  pub input_leads : InputLeads config (used_zones config) inputs
+  pub forward_leads : ForwardLeads config (used_zones config) forwards
+  pub output_leads : OutputLeads config (used_zones config) outputs
+  pub input_names : names_of inputs ≡ codes "filter_INPUT" ∷ zone_names input_start (used_zones config)
+  pub forward_names : names_of forwards ≡ codes "filter_FORWARD" ∷ forward_names (used_zones config) (used_zones config)
+  pub output_names : names_of outputs ≡ codes "filter_OUTPUT" ∷ zone_names output_start (used_zones config)
+  pub blocks : AreBlocks config (all_told config (used_zones config)) settings
   pub all : IsPermutation (((inputs ++ forwards) ++ outputs) ++ settings) chains
+  pub sorted : IsOrdered (λ (chain : Chain). chain.name) chains
 
 -- the entries that a set keeps: none where they come with a timeout (firewalld.ipset(5), `timeout`)
 abbrev pub kept : IpSet → List Item
@@ -55,6 +69,10 @@ body_of kind.Mac items = body.Macs (flat_map mac_of items)
 abbrev pub set_of : IpSet → NfSet
 set_of set = record { name = set_name set.name; body = body_of set.kind (kept set) }
 
--- one for each ipset
+-- one for each ipset, in order of their names
+pub record HaveSets (ipsets : List IpSet) (sets : List NfSet) : Type 0 where
+  pub all : IsPermutation (map set_of ipsets) sets
+  pub sorted : IsOrdered (λ (set : NfSet). set.name) sets
+
 abbrev pub AreSetsOf : Config → List NfSet → Type 0
-AreSetsOf config sets = IsPermutation (map set_of config.ipsets) sets
+AreSetsOf config sets = HaveSets config.ipsets sets

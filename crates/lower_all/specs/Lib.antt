@@ -1,2 +1,3 @@
-pub mod Extending
+pub mod Compiled
 pub mod Joined
+pub mod Ordered

@@ -2,7 +2,6 @@
 //! zones, as firewalld's manuals tell.
 #![tactic(auto)]
 
-mod blocks;
 mod nft;
 mod sets;
 mod zones;

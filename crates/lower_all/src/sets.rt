@@ -1,7 +1,8 @@
 //! The sets of a configuration as sets of nft(8).
 ghost use Rattle.std.specs.Prelude.{◌≡◌, IfOk, IsPermutation, map};
 ghost use Rattle.std.specs.List.{flat_map};
-ghost use Rattle.lower_all.specs.Joined.{kept, mac_of, net_of, set_of};
+ghost use Rattle.lower_all.specs.Joined.{HaveSets, kept, mac_of, net_of, set_of};
+ghost use Rattle.lower_all.specs.Ordered.{IsOrdered};
 ghost use Rattle.lower_match.specs.Lowers.{set_name};
 ghost use Rattle.nf_rules.specs.declared.set.SetBody.TheVariants as body;
 
@@ -78,11 +79,19 @@ fn listed(alloc: Global, ipsets: &[IpSet]) -> Result<Vec<NfSet>, Memory>
     Ok(sets)
 }
 
+/// Sets in order of their names.
+fn by_name(sets: Vec<NfSet>) -> Result<Seq<NfSet>, Memory>
+    ensures moved { IfOk result (λ ordered. IsPermutation sets.items ordered) }
+    ensures sorted { IfOk result (λ ordered. IsOrdered (λ (set : NfSet). set.name) ordered) }
+{
+    let mut ordered = sets;
+    ordered.sort_by(|one, other| one.name.as_str().cmp(&other.name.as_str()))?;
+    Ok(Seq::from_vec(ordered))
+}
+
 /// The sets of ipsets, in order of their names.
 pub fn sets_of(alloc: Global, ipsets: &[IpSet]) -> Result<Seq<NfSet>, Memory>
-    ensures { IfOk result (λ sets. IsPermutation (map set_of ipsets.now) sets) }
+    ensures { IfOk result (HaveSets ipsets.now) }
 {
-    let mut sets = listed(alloc, ipsets)?;
-    sets.sort_by(|one, other| one.name.as_str().cmp(&other.name.as_str()))?;
-    Ok(Seq::from_vec(sets))
+    by_name(listed(alloc, ipsets)?)
 }

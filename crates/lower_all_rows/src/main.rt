@@ -20,6 +20,7 @@ use fw_verdict::verdict;
 use fw_words::{LineError, split_words};
 use lower_all::Nft;
 use nf_chains::{eval_uncounted, filters_alone};
+use nf_goal::Compiler;
 use nf_rules::{Ruleset, print};
 use std::alloc::Global;
 

@@ -1,12 +1,12 @@
 -- Where a ruleset has one base chain at each of the three hooks, that one runs there, and no other.
-use Rattle.std.proofs.Common.{◌≡◌, ◌∙◌, ◌⊎◌, inl, inr, Bool, true, false, ◌&&◌, List, [], ◌∷◌, Option, None, Some, refl, sym, ap, subst}
+use Rattle.std.proofs.Common.{◌≡◌, ◌∙◌, ◌⊎◌, inl, inr, Bool, true, false, ◌&&◌, List, [], ◌∷◌, Option, None, Some, refl, ap}
 use Rattle.std.specs.Prelude.{if◌then◌else◌, codes}
 use Rattle.std.specs.Cmp.{IsTotalOrder}
 use Rattle.std.specs.Ordering.{is_lt}
 use Rattle.std.proofs.lemmas.Cmp.{int_cmp_total, nat_list_cmp_total, on_total, then_total, tied_itself}
 use Rattle.fw_zone.specs.Lists.{IsIn}
 use Rattle.lower_hooks.specs.Chains.{base_chain}
-use Rattle.lower_hooks.specs.Stands.{AreBases, HasBases, OneAt}
+use Rattle.lower_hooks.specs.Stands.{AreBases, HasBases}
 use Rattle.nf_chains.specs.Hooks.{first_of, is_at, next_at, priority, run_order, runs_before, runs_behind}
 use Rattle.nf_rules.specs.declared.chain.Chain.{Chain}
 use Rattle.nf_rules.specs.declared.chain.Hook.{Hook}

@@ -1,7 +1,7 @@
 -- What becomes of a packet in the filter of a ruleset: to the host, through it, or from it.
-use Rattle.std.proofs.Common.{◌≡◌, ◌∙◌, ℕ, List, [], ◌∷◌, false, Option, None, Some, refl, sym, ap, subst}
+use Rattle.std.proofs.Common.{◌≡◌, ◌∙◌, ℕ, List, [], ◌∷◌, false, Option, None, Some, refl, ap}
 use Rattle.std.specs.Prelude.{codes, IsSome}
-use Rattle.fw_hits.specs.Bindings.{default_zone, egress, ingress, ingress_from, zone_of}
+use Rattle.fw_hits.specs.Bindings.{default_zone, egress, ingress, ingress_from}
 use Rattle.fw_model.specs.Packets.{IsPacket}
 use Rattle.fw_model.specs.declared.config.Config.{Config}
 use Rattle.fw_model.specs.declared.packet.Origin.{Origin}

@@ -1,16 +1,20 @@
 -- Chains that were added, and those that are still there.
-use Rattle.std.proofs.Common.{◌≡◌, ◌∙◌, ◌⊎◌, inl, inr, ℕ, ◌+◌, ◌<◌, List, [], ◌∷◌, ◌++◌, length, map, take, get_or, None, refl, sym, ap, subst, Bor}
+use Rattle.std.proofs.Common.{◌≡◌, ◌∙◌, ◌⊎◌, inl, inr, ℕ, ◌+◌, ◌<◌, ◌≤◌, List, [], ◌∷◌, ◌++◌, length, take, get_or, None, refl, sym, ap, subst, Bor}
+use Rattle.std.proofs.lemmas.List.{take_all}
 use Rattle.fw_model.specs.declared.config.Config.{Config}
 use Rattle.fw_model.specs.declared.packet.Packet.{Packet}
 use Rattle.fw_model.specs.declared.zone.Zone.{Zone}
 use Rattle.fw_order.specs.Borrowed.{lent}
 use Rattle.fw_verdict.specs.Walk.{Walked}
 use Rattle.fw_zone.specs.Lists.{IsIn}
-use Rattle.lower_hooks.specs.Chains.{Grows, HasChain, HasPairs, IsOnlyBase}
+use Rattle.lower_hooks.specs.Chains.{Grows, HasChain, HasPairs, IsOnlyBase, base_chain}
+use Rattle.lower_hooks.specs.Leads.{HasLeads, Leads, PairsLead}
 use Rattle.lower_hooks.specs.Work.{DoIn}
-use Rattle.lower_hooks.proofs.Lists.{in_either, in_first, in_second, lent_more}
+use Rattle.lower_hooks.proofs.Lists.{in_either, lent_more}
+use Rattle.lower_zone.proofs.Built.{in_first, in_second}
 use Rattle.lower_zone.specs.Forms.{chain_named}
 use Rattle.nf_rules.specs.declared.chain.Chain.{Chain}
+use Rattle.nf_rules.specs.declared.chain.Hook.{Hook}
 use Rattle.nf_rules.specs.declared.rule.Rule.{Rule}
 use Rattle.nf_rules.specs.declared.ruleset.Ruleset.{Ruleset}
 
@@ -52,20 +56,28 @@ only_base base old new are grows = record {
         alone (inr never) = absurd never
     either chain (inr plain) = inr plain
 
+-- where its rules are known
+pub known_base : (name : List ℕ) (at : Hook) (known made : List Rule) (base : Chain) (old new : List Chain)
+    → old ≡ base ∷ [] → base ≡ base_chain name at made → made ≡ known → Grows old new → IsOnlyBase (base_chain name at known) new
+known_base name at known made base old new are is same grows =
+    only_base (base_chain name at known) old new (are ∙ ap (λ (chain : Chain). chain ∷ []) (is ∙ ap (base_chain name at) same)) grows
+
 pub last_pushed : (old new : List Chain) (last : Chain) → new ≡ old ++ last ∷ [] → IsIn last new
 last_pushed old new last are = subst (λ (list : List Chain). IsIn last list) (sym are) (in_second last old (last ∷ []) (inl refl))
 
--- a chain of a name
-pub has_pushed : (config : Config) (Holds : Ruleset → Type 0) (walked : Packet → Walked) (wanted name : List ℕ) (made : List Rule) (old new : List Chain)
-    → new ≡ old ++ chain_named name made ∷ []
-    → name ≡ wanted
-    → DoIn config Holds made walked
-    → HasChain config Holds walked wanted new
-has_pushed config Holds walked wanted name made old new are is does = record {
-  rules = made;
-  there = last_pushed old new (chain_named wanted made) (are ∙ ap (λ (one : List ℕ). old ++ chain_named one made ∷ []) is);
-  work = does;
-}
+-- a chain of a name and of rules that are known
+module _ (config : Config) (wanted name : List ℕ) (listed made : List Rule) (old new : List Chain)
+    (are : new ≡ old ++ chain_named name made ∷ []) (is : name ≡ wanted) (same : made ≡ listed) where
+  known_there : IsIn (chain_named wanted listed) new
+  known_there =
+      last_pushed old new (chain_named wanted listed)
+      (are ∙ ap (λ (one : List ℕ). old ++ chain_named one made ∷ []) is ∙ ap (λ (rules : List Rule). old ++ chain_named wanted rules ∷ []) same)
+
+  pub has_pushed : (Holds : Ruleset → Type 0) (walked : Packet → Walked) → DoIn config Holds listed walked → HasChain config Holds walked wanted new
+  has_pushed Holds walked does = record { rules = listed; there = known_there; work = does }
+
+  pub leads_pushed : (To : List ℕ → Type 0) → Leads config To listed → HasLeads config To wanted new
+  leads_pushed To leads = record { rules = listed; there = known_there; leads = leads }
 
 pub has_kept : (config : Config) (Holds : Ruleset → Type 0) (walked : Packet → Walked) (name : List ℕ) (old new : List Chain)
     → Grows old new → HasChain config Holds walked name old → HasChain config Holds walked name new
@@ -80,6 +92,17 @@ pairs_kept config zones from old new grows has = record {
   pairs = λ to among. has_kept config _ _ _ old new grows (has.pairs to among);
 }
 
+pub leads_kept : (config : Config) (To : List ℕ → Type 0) (name : List ℕ) (old new : List Chain)
+    → Grows old new → HasLeads config To name old → HasLeads config To name new
+leads_kept config To name old new grows has = record { rules = has.rules; there = grows.kept (chain_named name has.rules) has.there; leads = has.leads }
+
+pub pairs_lead : (config : Config) (zones : List Zone) (from : Zone) (old new : List Chain)
+    → Grows old new → PairsLead config zones from old → PairsLead config zones from new
+pairs_lead config zones from old new grows lead = record {
+  first = leads_kept config _ _ old new grows lead.first;
+  pairs = λ to among. leads_kept config _ _ old new grows (lead.pairs to among);
+}
+
 -- What holds for each zone so far, and for one more.
 pub one_more : {A : Type 0} (Has : A → Type 0) (all : List (Bor A)) (at : ℕ) (item : Bor A)
     → at < length all → item ≡ get_or all at item
@@ -92,3 +115,9 @@ one_more {A = A} Has all at item below is before this one among =
     either : IsIn one (lent (take at all)) ⊎ (item.now ≡ one) → Has one
     either (inl there) = before one there
     either (inr same) = subst Has same this
+
+-- and then for all
+pub for_all : {A : Type 0} (Has : A → Type 0) (all : List (Bor A)) (at : ℕ) → length all ≤ at
+    → ((one : A) → IsIn one (lent (take at all)) → Has one)
+    → (one : A) → IsIn one (lent all) → Has one
+for_all Has all at whole so_far one among = so_far one (subst (λ list. IsIn one (lent list)) (sym (take_all at all whole)) among)

@@ -8,3 +8,5 @@ pub mod Passing
 pub mod Filter
 pub mod Bases
 pub mod Named
+pub mod Leading
+pub mod Doing

@@ -1,6 +1,5 @@
 -- The names of chains that were added.
-use Rattle.std.proofs.Common.{◌≡◌, ◌∙◌, ℕ, ◌+◌, ◌<◌, List, [], ◌∷◌, ◌++◌, length, map, take, get_or, refl, sym, ap, append-nil, append_assoc, Bor}
-use Rattle.std.specs.List.{flat_map}
+use Rattle.std.proofs.Common.{◌≡◌, ◌∙◌, ℕ, ◌+◌, ◌<◌, List, [], ◌∷◌, ◌++◌, length, map, take, get_or, sym, ap, append_assoc, Bor}
 use Rattle.std.proofs.lemmas.List.{map-append}
 use Rattle.fw_order.specs.Borrowed.{lent}
 use Rattle.lower_hooks.specs.Names.{names_of}
@@ -30,18 +29,3 @@ named_more f all at item first before behind below is so_far this =
     ∙ ap (λ list. list ++ f item.now ∷ []) so_far
     ∙ append_assoc first (map f (lent (take at all))) (f item.now ∷ [])
     ∙ ap (λ list. first ++ list) (sym (map-append f (lent (take at all)) (item.now ∷ [])) ∙ ap (map f) (sym (lent_more all at item below is)))
-
-flat_map-more : {A B : Type 0} (f : A → List B) (xs : List A) (x : A) → flat_map f (xs ++ x ∷ []) ≡ flat_map f xs ++ f x
-flat_map-more f [] x = append-nil (f x)
-flat_map-more f (y ∷ xs) x = ap (λ list. f y ++ list) (flat_map-more f xs x) ∙ sym (append_assoc (f y) (flat_map f xs) (f x))
-
-pub named_flat : {A B : Type 0} (f : A → List B) (all : List (Bor A)) (at : ℕ) (item : Bor A) (first before behind : List B)
-    → at < length all → item ≡ get_or all at item
-    → before ≡ first ++ flat_map f (lent (take at all))
-    → behind ≡ before ++ f item.now
-    → behind ≡ first ++ flat_map f (lent (take (at + 1) all))
-named_flat f all at item first before behind below is so_far this =
-    this
-    ∙ ap (λ list. list ++ f item.now) so_far
-    ∙ append_assoc first (flat_map f (lent (take at all))) (f item.now)
-    ∙ ap (λ list. first ++ list) (sym (flat_map-more f (lent (take at all)) item.now) ∙ ap (flat_map f) (sym (lent_more all at item below is)))

@@ -1,10 +1,9 @@
 -- The way of a packet through the hooks of a ruleset.
-use Rattle.std.proofs.Common.{◌≡◌, ◌∙◌, ℕ, Bool, true, false, List, [], ◌∷◌, ◌++◌, Option, None, Some, refl, sym, ap, subst, append-nil}
-use Rattle.std.specs.Prelude.{codes, unwrap_or, if◌then◌else◌}
+use Rattle.std.proofs.Common.{◌≡◌, ◌∙◌, ℕ, Bool, false, List, [], ◌∷◌, ◌++◌, Option, None, Some, refl, ap, append-nil}
+use Rattle.std.specs.Prelude.{unwrap_or, if◌then◌else◌}
 use Rattle.std.specs.Option.{option_or}
 use Rattle.fw_addr.specs.declared.log.LogLine.{LogLine}
-use Rattle.fw_hits.specs.Bindings.{default_zone, egress, ingress, ingress_from, interface_zone, source_zone, zone_of}
-use Rattle.fw_model.specs.Packets.{IsPacket}
+use Rattle.fw_hits.specs.Bindings.{default_zone, interface_zone, source_zone, zone_of}
 use Rattle.fw_model.specs.declared.config.Config.{Config}
 use Rattle.fw_model.specs.declared.outcome.Outcome.{Outcome}
 use Rattle.fw_model.specs.declared.outcome.Verdict.{Verdict}
@@ -12,19 +11,16 @@ use Rattle.fw_model.specs.declared.outcome.Verdict.TheVariants as verdict
 use Rattle.fw_model.specs.declared.packet.Origin.{Origin}
 use Rattle.fw_model.specs.declared.packet.Origin.TheVariants as origin
 use Rattle.fw_model.specs.declared.packet.Packet.{Packet}
-use Rattle.fw_model.specs.declared.packet.Via.{Via}
-use Rattle.fw_model.specs.declared.packet.Via.TheVariants as via
 use Rattle.fw_model.specs.declared.runtime.Runtime.{Runtime}
 use Rattle.fw_model.specs.declared.zone.Zone.{Zone}
 use Rattle.fw_verdict.specs.Walk.{Walked}
 use Rattle.fw_verdict.specs.Way.{filtered, passed, panicked, route, way}
-use Rattle.fw_zone.specs.Lists.{IsIn}
-use Rattle.lower_hooks.specs.Stands.{HasBases, NoneAt, OneAt}
-use Rattle.lower_hooks.specs.Chains.{EndAs, base_chain}
+use Rattle.lower_hooks.specs.Stands.{NoneAt, OneAt}
+use Rattle.lower_hooks.specs.Chains.{EndAs}
 use Rattle.lower_zone.specs.Evaluates.{behind_lines}
 use Rattle.nf_chains.specs.Evaluation.{Ends}
 use Rattle.fw_addr.specs.declared.addr.Addr.{Addr}
-use Rattle.nf_chains.specs.Hooks.{Eval, Goes, Meets, Passes, Stop, is_accept, out_by, stops_behind, stops_before}
+use Rattle.nf_chains.specs.Hooks.{Eval, Meets, Passes, Stop, stops_behind, stops_before}
 use Rattle.nf_chains.specs.Hooks.Goes.{routed_on}
 use Rattle.nf_chains.specs.Hooks.Meets.{accepted, passed as none_more, refused}
 use Rattle.nf_chains.specs.Hooks.Passes.{further, stopped, through}

@@ -1,8 +1,8 @@
 -- The way of a packet through a base chain: the first rules, the bindings of zones, and the chain of its zone.
-use Rattle.std.proofs.Common.{◌≡◌, ◌∙◌, inl, inr, ℕ, List, [], ◌∷◌, ◌++◌, Option, None, Some, refl, sym, ap, subst, append-nil, append_assoc}
+use Rattle.std.proofs.Common.{◌≡◌, ℕ, List, [], ◌∷◌, ◌++◌, Option, None, Some, refl, sym, ap, subst, append-nil, append_assoc}
 use Rattle.std.specs.Prelude.{codes}
 use Rattle.fw_addr.specs.declared.log.LogLine.{LogLine}
-use Rattle.fw_hits.specs.Bindings.{egress, ingress}
+use Rattle.fw_hits.specs.Bindings.{egress}
 use Rattle.fw_model.specs.declared.config.Config.{Config}
 use Rattle.fw_model.specs.declared.outcome.Verdict.{Verdict}
 use Rattle.fw_model.specs.declared.outcome.Verdict.TheVariants as verdict
@@ -10,7 +10,7 @@ use Rattle.fw_model.specs.declared.packet.Packet.{Packet}
 use Rattle.fw_model.specs.declared.zone.Zone.{Zone}
 use Rattle.fw_verdict.specs.Policies.End.{at_host, in_zone}
 use Rattle.fw_verdict.specs.Walk.{Walked, in_turn, or_then, walk}
-use Rattle.fw_verdict.specs.Way.{decided_as, early_items, forward_walk, forwarded, forwarded_end, from_host, known_item, lo_walk, policies_before, policies_behind, target_forwarded, target_to_host, to_host, to_host_end, zone_walk}
+use Rattle.fw_verdict.specs.Way.{decided_as, early_items, forward_walk, forwarded_end, known_item, lo_walk, policies_before, policies_behind, target_forwarded, target_to_host, to_host_end, zone_walk}
 use Rattle.fw_zone.specs.Lists.{IsIn}
 use Rattle.lower_dispatch.specs.Dispatch.{Dispatches, LeadTo, at_count}
 use Rattle.lower_dispatch.specs.declared.direction.Direction.TheVariants as direction

@@ -1,5 +1,5 @@
 -- What the chains of the hooks do with packets: the steps of `Way.antt` from the filter on, as the evaluation of nft(8) has it.
-use Rattle.std.specs.Prelude.{◌≡◌, ◌⊎◌, ℕ, pos, List, [], ◌∷◌, ◌++◌, codes, Option, None, Some}
+use Rattle.std.specs.Prelude.{◌≡◌, ◌⊎◌, ℕ, pos, List, [], ◌++◌, codes, Option, None, Some}
 use Rattle.fw_hits.specs.Bindings.{egress, ingress}
 use Rattle.fw_model.specs.declared.config.Config.{Config}
 use Rattle.fw_model.specs.declared.outcome.Verdict.{Verdict}

@@ -1,5 +1,7 @@
 pub mod Chains
 pub mod Laws
+pub mod Leads
+pub mod Listed
 pub mod Names
 pub mod Rules
 pub mod Settings

@@ -1,5 +1,5 @@
 -- What rules do that stand before others, in rulesets of which something holds.
-use Rattle.std.specs.Prelude.{◌≡◌, ℕ, List, ◌++◌, Bool, true, false, Option}
+use Rattle.std.specs.Prelude.{◌≡◌, ℕ, List, true, false, Option}
 use Rattle.fw_model.specs.declared.config.Config.{Config}
 use Rattle.fw_model.specs.declared.packet.Packet.{Packet}
 use Rattle.fw_model.specs.declared.policy.Policy.{Policy}
@@ -40,9 +40,3 @@ DoIn config Holds made walked =
     → Holds table
     → Meeting config table now
     → Do table leaving made now (walked now.packet)
-
--- Rules were added that do so.
-pub record Adds (config : Config) (Holds : Ruleset → Type 0) (walked : Packet → Walked) (old new : List Rule) : Type 0 where
-  pub rules : List Rule
-  pub are : new ≡ old ++ rules
-  pub work : DoIn config Holds rules walked

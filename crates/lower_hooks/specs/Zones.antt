@@ -1,6 +1,6 @@
 -- What is done with the packets of a zone, or of two, behind what is done with all packets of a hook: the steps of `Way.antt` once
 -- their zones are known.
-use Rattle.std.specs.Prelude.{List, [], ◌∷◌, Some}
+use Rattle.std.specs.Prelude.{[], ◌∷◌, Some}
 use Rattle.fw_model.specs.declared.config.Config.{Config}
 use Rattle.fw_model.specs.declared.outcome.Verdict.TheVariants as verdict
 use Rattle.fw_model.specs.declared.packet.Packet.{Packet}

@@ -5,6 +5,7 @@ ghost use Rattle.fw_model.specs.declared.zone.Zone.{Zone};
 ghost use Rattle.fw_zone.specs.Lists.{IsIn};
 ghost use Rattle.lower_dispatch.specs.Dispatch.{Dispatches};
 ghost use Rattle.lower_hooks.specs.Chains.{ForwardWorks, Grows, HasChain, HasPairs, InputWorks, OutputWorks, base_chain};
+ghost use Rattle.lower_hooks.specs.Leads.{ForwardLeads, HasLeads, InputLeads, IsForwardTarget, IsInputTarget, IsOutputTarget, OutputLeads, PairsLead};
 ghost use Rattle.lower_hooks.specs.Names.{forward_names, from_names, input_start, names_of, output_start, pair_start, zone_names};
 ghost use Rattle.lower_hooks.specs.Rules.{early_rules, known_rules, lo_out};
 ghost use Rattle.lower_hooks.specs.Zones.{ForwardStands, InputStands, OutputStands, host_to_zone, zone_to_host, zone_to_zone};
@@ -15,10 +16,10 @@ use crate::forward::forward_rules;
 use crate::input::input_rules;
 use crate::names::{joined, pair_start};
 use crate::output::output_rules;
-use crate::rules::one;
 use fw_base::{Memory, Seq, Text};
 use fw_model::{Config, Zone};
 use lower_dispatch::{Direction, dispatch};
+use lower_zone::one;
 use nf_rules::{Base, Chain, ChainKind, Hook, Rule};
 use std::alloc::Global;
 
@@ -91,6 +92,7 @@ fn push_input(
     ensures grows { OnOk result (Grows chains.old chains.new) }
     ensures there { OnOk result (HasChain config.now (InputStands config.now zone.now) (zone_to_host config.now zone.now) (input_start ++ zone.now.name) chains.new) }
     ensures names { OnOk result (names_of chains.new ≡ names_of chains.old ++ (input_start ++ zone.now.name) ∷ []) }
+    ensures leads { OnOk result (HasLeads config.now (IsInputTarget config.now zone.now) (input_start ++ zone.now.name) chains.new) }
 {
     let rules = input_rules(alloc, config, zone)?;
     let name = joined(alloc, "filter_INPUT_", &zone.name)?;
@@ -107,6 +109,7 @@ fn push_inputs(
     ensures there { OnOk result ((zone : Zone) → IsIn zone (lent zones.now)
         → HasChain config.now (InputStands config.now zone) (zone_to_host config.now zone) (input_start ++ zone.name) chains.new) }
     ensures names { OnOk result (names_of chains.new ≡ names_of chains.old ++ zone_names input_start (lent zones.now)) }
+    ensures leads { OnOk result ((zone : Zone) → IsIn zone (lent zones.now) → HasLeads config.now (IsInputTarget config.now zone) (input_start ++ zone.name) chains.new) }
 {
     for zone in zones {
         push_input(alloc, config, zone, chains)?;
@@ -121,6 +124,7 @@ fn push_inputs(
 pub fn input_chains(alloc: Global, config: &Config, zones: &[&Zone]) -> Result<Seq<Chain>, Memory>
     ensures works { IfOk result (λ chains. InputWorks config.now (lent zones.now) chains) }
     ensures names { IfOk result (λ chains. names_of chains ≡ codes "filter_INPUT" ∷ zone_names input_start (lent zones.now)) }
+    ensures leads { IfOk result (λ chains. InputLeads config.now (lent zones.now) chains) }
 {
     let dispatched = dispatch(alloc, config, Direction::Ingress, "filter_INPUT_")?;
     let rules = input_base(alloc, dispatched)?;
@@ -142,6 +146,7 @@ fn push_output(
     ensures grows { OnOk result (Grows chains.old chains.new) }
     ensures there { OnOk result (HasChain config.now (OutputStands config.now zone.now) (host_to_zone config.now zone.now) (output_start ++ zone.now.name) chains.new) }
     ensures names { OnOk result (names_of chains.new ≡ names_of chains.old ++ (output_start ++ zone.now.name) ∷ []) }
+    ensures leads { OnOk result (HasLeads config.now (IsOutputTarget config.now zone.now) (output_start ++ zone.now.name) chains.new) }
 {
     let rules = output_rules(alloc, config, zone)?;
     let name = joined(alloc, "filter_OUTPUT_", &zone.name)?;
@@ -158,6 +163,7 @@ fn push_outputs(
     ensures there { OnOk result ((zone : Zone) → IsIn zone (lent zones.now)
         → HasChain config.now (OutputStands config.now zone) (host_to_zone config.now zone) (output_start ++ zone.name) chains.new) }
     ensures names { OnOk result (names_of chains.new ≡ names_of chains.old ++ zone_names output_start (lent zones.now)) }
+    ensures leads { OnOk result ((zone : Zone) → IsIn zone (lent zones.now) → HasLeads config.now (IsOutputTarget config.now zone) (output_start ++ zone.name) chains.new) }
 {
     for zone in zones {
         push_output(alloc, config, zone, chains)?;
@@ -171,6 +177,7 @@ fn push_outputs(
 pub fn output_chains(alloc: Global, config: &Config, zones: &[&Zone]) -> Result<Seq<Chain>, Memory>
     ensures works { IfOk result (λ chains. OutputWorks config.now (lent zones.now) chains) }
     ensures names { IfOk result (λ chains. names_of chains ≡ codes "filter_OUTPUT" ∷ zone_names output_start (lent zones.now)) }
+    ensures leads { IfOk result (λ chains. OutputLeads config.now (lent zones.now) chains) }
 {
     let dispatched = dispatch(alloc, config, Direction::Egress, "filter_OUTPUT_")?;
     let rules = output_base(alloc, dispatched)?;
@@ -193,6 +200,7 @@ fn push_pair(
     ensures grows { OnOk result (Grows chains.old chains.new) }
     ensures there { OnOk result (HasChain config.now (ForwardStands config.now from.now to.now) (zone_to_zone config.now from.now to.now) (pair_start from.now.name ++ to.now.name) chains.new) }
     ensures names { OnOk result (names_of chains.new ≡ names_of chains.old ++ (pair_start from.now.name ++ to.now.name) ∷ []) }
+    ensures leads { OnOk result (HasLeads config.now (IsForwardTarget config.now from.now to.now) (pair_start from.now.name ++ to.now.name) chains.new) }
 {
     let rules = forward_rules(alloc, config, from, to)?;
     let start = pair_start(alloc, &from.name)?;
@@ -211,6 +219,8 @@ fn push_pairs(
     ensures there { OnOk result ((zone : Zone) → IsIn zone (lent zones.now)
         → HasChain config.now (ForwardStands config.now from.now zone) (zone_to_zone config.now from.now zone) (pair_start from.now.name ++ zone.name) chains.new) }
     ensures names { OnOk result (names_of chains.new ≡ names_of chains.old ++ zone_names (pair_start from.now.name) (lent zones.now)) }
+    ensures leads { OnOk result ((zone : Zone) → IsIn zone (lent zones.now)
+        → HasLeads config.now (IsForwardTarget config.now from.now zone) (pair_start from.now.name ++ zone.name) chains.new) }
 {
     for zone in zones {
         push_pair(alloc, config, from, zone, chains)?;
@@ -229,6 +239,7 @@ fn push_forward(
     ensures grows { OnOk result (Grows chains.old chains.new) }
     ensures there { OnOk result (HasPairs config.now (lent zones.now) from.now chains.new) }
     ensures names { OnOk result (names_of chains.new ≡ names_of chains.old ++ from_names (lent zones.now) from.now) }
+    ensures leads { OnOk result (PairsLead config.now (lent zones.now) from.now chains.new) }
 {
     let start = pair_start(alloc, &from.name)?;
     let rules = dispatch(alloc, config, Direction::Egress, start.as_str())?;
@@ -248,6 +259,7 @@ fn push_forwards(
     ensures grows { OnOk result (Grows chains.old chains.new) }
     ensures there { OnOk result ((zone : Zone) → IsIn zone (lent zones.now) → HasPairs config.now (lent others.now) zone chains.new) }
     ensures names { OnOk result (names_of chains.new ≡ names_of chains.old ++ forward_names (lent others.now) (lent zones.now)) }
+    ensures leads { OnOk result ((zone : Zone) → IsIn zone (lent zones.now) → PairsLead config.now (lent others.now) zone chains.new) }
 {
     for zone in zones {
         push_forward(alloc, config, zone, others, chains)?;
@@ -262,6 +274,7 @@ fn push_forwards(
 pub fn forward_chains(alloc: Global, config: &Config, zones: &[&Zone]) -> Result<Seq<Chain>, Memory>
     ensures works { IfOk result (λ chains. ForwardWorks config.now (lent zones.now) chains) }
     ensures names { IfOk result (λ chains. names_of chains ≡ codes "filter_FORWARD" ∷ forward_names (lent zones.now) (lent zones.now)) }
+    ensures leads { IfOk result (λ chains. ForwardLeads config.now (lent zones.now) chains) }
 {
     let dispatched = dispatch(alloc, config, Direction::Ingress, "filter_FORWARD_")?;
     let rules = input_base(alloc, dispatched)?;

@@ -1,9 +1,6 @@
 //! What is done with packets that are forwarded.
-ghost use Rattle.std.specs.Prelude.{◌≡◌, Some, IfOk, OnOk};
-ghost use Rattle.fw_model.specs.declared.config.Config.{Config};
-ghost use Rattle.fw_verdict.specs.Way.{forward_walk};
-ghost use Rattle.lower_hooks.specs.Work.{Adds, DoIn};
-ghost use Rattle.lower_hooks.specs.Zones.{ForwardStands, zone_to_zone};
+ghost use Rattle.std.specs.Prelude.{◌≡◌, ◌++◌, IfOk, OnOk};
+ghost use Rattle.lower_hooks.specs.Listed.{forward_rules, within_rules};
 
 use crate::policies::push_policies;
 use crate::rules::push_always;
@@ -15,7 +12,7 @@ use std::alloc::Global;
 
 /// Appends what accepts the packets that may stay within a zone.
 fn push_within(alloc: Global, from: &Zone, to: &Zone, rules: &mut Seq<Rule>) -> Result<(), Memory>
-    ensures { OnOk result ((config : Config) → Adds config (λ table. Unit {0}) (λ packet. forward_walk (Some from.now) (Some to.now)) rules.old rules.new) }
+    ensures { OnOk result (rules.new ≡ rules.old ++ within_rules from.now to.now) }
 {
     if stays_within(Some(from), Some(to)) {
         push_always(alloc, Verdict::Accept, rules)
@@ -32,7 +29,7 @@ pub fn forward_rules(
     from: &Zone,
     to: &Zone,
 ) -> Result<Seq<Rule>, Memory>
-    ensures { IfOk result (λ rules. DoIn config.now (ForwardStands config.now from.now to.now) rules (zone_to_zone config.now from.now to.now)) }
+    ensures { IfOk result (λ rules. rules ≡ forward_rules config.now from.now to.now) }
 {
     let one = End::Zone(Some(from));
     let other = End::Zone(Some(to));

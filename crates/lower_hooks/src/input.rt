@@ -1,11 +1,8 @@
 //! What is done with packets to the host.
-ghost use Rattle.std.specs.Prelude.{◌≡◌, ◌++◌, Some, IfOk, OnOk};
-ghost use Rattle.fw_model.specs.declared.config.Config.{Config};
-ghost use Rattle.fw_verdict.specs.Way.{decided_as, target_to_host, zone_walk};
+ghost use Rattle.std.specs.Prelude.{◌≡◌, ◌++◌, IfOk, OnOk};
+ghost use Rattle.lower_hooks.specs.Listed.{input_rules, target_rules, zone_jump};
 ghost use Rattle.lower_hooks.specs.Rules.{default_rules};
 ghost use Rattle.lower_hooks.specs.Settings.{has_walk};
-ghost use Rattle.lower_hooks.specs.Work.{Adds, DoIn, ZoneStands};
-ghost use Rattle.lower_hooks.specs.Zones.{InputStands, zone_to_host};
 
 use crate::names::zone_block_name;
 use crate::policies::{has_settings, push_policies};
@@ -26,7 +23,7 @@ pub fn has_walk(zone: &Zone) -> bool
 
 /// Appends a jump to the chain of a zone's settings, where it has any.
 fn push_zone(alloc: Global, zone: &Zone, rules: &mut Seq<Rule>) -> Result<(), Memory>
-    ensures { OnOk result ((config : Config) → Adds config (λ table. ZoneStands config table zone.now) (λ packet. zone_walk config packet (Some zone.now)) rules.old rules.new) }
+    ensures { OnOk result (rules.new ≡ rules.old ++ zone_jump zone.now) }
 {
     if has_walk(zone) {
         let name = zone_block_name(alloc, &zone.name)?;
@@ -48,7 +45,7 @@ fn push_default(alloc: Global, rules: &mut Seq<Rule>) -> Result<(), Memory>
 /// Appends what the target of a zone does with what nothing else decided (firewalld.zone(5), `target`): under `default` ICMP is
 /// accepted, and all others are rejected.
 fn push_target(alloc: Global, target: ZoneTarget, rules: &mut Seq<Rule>) -> Result<(), Memory>
-    ensures { OnOk result ((config : Config) → Adds config (λ table. Unit {0}) (λ packet. decided_as (target_to_host target packet)) rules.old rules.new) }
+    ensures { OnOk result (rules.new ≡ rules.old ++ target_rules target) }
 {
     match target {
         ZoneTarget::Accept => push_always(alloc, Verdict::Accept, rules),
@@ -60,7 +57,7 @@ fn push_target(alloc: Global, target: ZoneTarget, rules: &mut Seq<Rule>) -> Resu
 
 /// The rules for the packets of a zone to the host: policies, the zone's settings, policies, and the zone's target.
 pub fn input_rules(alloc: Global, config: &Config, zone: &Zone) -> Result<Seq<Rule>, Memory>
-    ensures { IfOk result (λ rules. DoIn config.now (InputStands config.now zone.now) rules (zone_to_host config.now zone.now)) }
+    ensures { IfOk result (λ rules. rules ≡ input_rules config.now zone.now) }
 {
     let from = End::Zone(Some(zone));
     let mut rules = Seq::new(alloc);

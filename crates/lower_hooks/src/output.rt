@@ -1,7 +1,6 @@
 //! What is done with packets of the host.
-ghost use Rattle.std.specs.Prelude.{IfOk};
-ghost use Rattle.lower_hooks.specs.Work.{DoIn};
-ghost use Rattle.lower_hooks.specs.Zones.{OutputStands, host_to_zone};
+ghost use Rattle.std.specs.Prelude.{◌≡◌, IfOk};
+ghost use Rattle.lower_hooks.specs.Listed.{output_rules};
 
 use crate::policies::push_policies;
 use crate::rules::push_always;
@@ -13,7 +12,7 @@ use std::alloc::Global;
 
 /// The rules for the packets of the host to a zone: policies, and what they decide nothing of is accepted.
 pub fn output_rules(alloc: Global, config: &Config, zone: &Zone) -> Result<Seq<Rule>, Memory>
-    ensures { IfOk result (λ rules. DoIn config.now (OutputStands config.now zone.now) rules (host_to_zone config.now zone.now)) }
+    ensures { IfOk result (λ rules. rules ≡ output_rules config.now zone.now) }
 {
     let to = End::Zone(Some(zone));
     let mut rules = Seq::new(alloc);

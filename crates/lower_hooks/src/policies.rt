@@ -1,14 +1,11 @@
 //! Policies in turn.
-ghost use Rattle.std.specs.Prelude.{◌≡◌, false, OnOk};
-ghost use Rattle.fw_model.specs.declared.config.Config.{Config};
+ghost use Rattle.std.specs.Prelude.{◌≡◌, ◌++◌, OnOk};
+ghost use Rattle.std.specs.List.{flat_map};
 ghost use Rattle.fw_order.specs.Borrowed.{lent};
 ghost use Rattle.fw_verdict.specs.Ends.{end_of};
-ghost use Rattle.fw_model.specs.declared.policy.Policy.{Policy};
-ghost use Rattle.fw_verdict.specs.Items.{items};
-ghost use Rattle.fw_verdict.specs.Walk.{silently, walk};
-ghost use Rattle.fw_verdict.specs.Policies.{decided_by_target, policies, policies_at, policy_walk, walk_all};
+ghost use Rattle.fw_verdict.specs.Policies.{decided_by_target};
+ghost use Rattle.lower_hooks.specs.Listed.{decided_rules, policy_jump, policy_rules, rules_at};
 ghost use Rattle.lower_hooks.specs.Settings.{has_settings};
-ghost use Rattle.lower_hooks.specs.Work.{Adds, PoliciesStand, PolicyStands};
 
 use crate::names::policy_block_name;
 use crate::rules::{push_always, push_jump};
@@ -32,7 +29,7 @@ pub fn has_settings(settings: &Rules) -> bool
 
 /// Appends a jump to the chain of a policy's settings, where it has any.
 fn push_settings(alloc: Global, policy: &Policy, rules: &mut Seq<Rule>) -> Result<(), Memory>
-    ensures { OnOk result ((config : Config) → Adds config (λ table. PolicyStands config table policy.now) (walk (items config policy.now.rules false)) rules.old rules.new) }
+    ensures { OnOk result (rules.new ≡ rules.old ++ policy_jump policy.now) }
 {
     if has_settings(&policy.rules) {
         let name = policy_block_name(alloc, &policy.name)?;
@@ -44,7 +41,7 @@ fn push_settings(alloc: Global, policy: &Policy, rules: &mut Seq<Rule>) -> Resul
 
 /// Appends what a policy's target does, if anything.
 fn push_target(alloc: Global, target: PolicyTarget, rules: &mut Seq<Rule>) -> Result<(), Memory>
-    ensures { OnOk result ((config : Config) (policy : Policy) → Adds config (λ table. PolicyStands config table policy) (λ packet. silently (decided_by_target target)) rules.old rules.new) }
+    ensures { OnOk result (rules.new ≡ rules.old ++ decided_rules (decided_by_target target)) }
 {
     match decided_by_target(target) {
         Some(verdict) => push_always(alloc, verdict, rules),
@@ -54,7 +51,7 @@ fn push_target(alloc: Global, target: PolicyTarget, rules: &mut Seq<Rule>) -> Re
 
 /// Appends what a policy does: the chain of its settings, where it has any, and then its target.
 fn push_policy(alloc: Global, policy: &Policy, rules: &mut Seq<Rule>) -> Result<(), Memory>
-    ensures { OnOk result ((config : Config) → Adds config (λ table. PolicyStands config table policy.now) (λ packet. policy_walk config packet policy.now) rules.old rules.new) }
+    ensures { OnOk result (rules.new ≡ rules.old ++ policy_rules policy.now) }
 {
     push_settings(alloc, policy, rules)?;
     push_target(alloc, policy.target, rules)
@@ -62,7 +59,7 @@ fn push_policy(alloc: Global, policy: &Policy, rules: &mut Seq<Rule>) -> Result<
 
 /// Appends what policies do, one after another.
 fn push_all(alloc: Global, policies: &[&Policy], rules: &mut Seq<Rule>) -> Result<(), Memory>
-    ensures { OnOk result ((config : Config) → Adds config (λ table. PoliciesStand config table (lent policies.now)) (λ packet. walk_all config packet (lent policies.now)) rules.old rules.new) }
+    ensures { OnOk result (rules.new ≡ rules.old ++ flat_map policy_rules (lent policies.now)) }
 {
     for policy in policies {
         push_policy(alloc, policy, rules)?;
@@ -79,8 +76,7 @@ pub fn push_policies(
     to: End<'_>,
     rules: &mut Seq<Rule>,
 ) -> Result<(), Memory>
-    ensures { OnOk result (Adds config.now (λ table. PoliciesStand config.now table (policies_at config.now stage (end_of from.entry) (end_of to.entry)))
-        (λ packet. policies config.now stage packet (end_of from.entry) (end_of to.entry)) rules.old rules.new) }
+    ensures { OnOk result (rules.new ≡ rules.old ++ rules_at config.now stage (end_of from.entry) (end_of to.entry)) }
 {
     let ordered = policies_at(alloc, config, stage, from, to)?;
     push_all(alloc, ordered.as_slice(), rules)

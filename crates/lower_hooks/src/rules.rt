@@ -1,31 +1,13 @@
 //! Rules of one statement.
-ghost use Rattle.std.specs.Prelude.{◌≡◌, ◌++◌, [], ◌∷◌, IfOk, OnOk};
+ghost use Rattle.std.specs.Prelude.{◌≡◌, ◌++◌, [], ◌∷◌, OnOk};
 ghost use Rattle.lower_hooks.specs.Rules.{always, where_is};
-ghost use Rattle.lower_zone.specs.Forms.{jump_to, statement};
+ghost use Rattle.lower_zone.specs.Forms.{jump_to};
 
 use fw_base::{Memory, Seq, Text};
 use fw_model::Verdict;
+use lower_zone::{one, statement};
 use nf_rules::{Match, Rule, Stmt, Test};
 use std::alloc::Global;
-
-/// A list of one item.
-pub fn one<T: Drop>(alloc: Global, item: T) -> Result<Seq<T>, Memory>
-    ensures { IfOk result (λ list. list ≡ item ∷ []) }
-{
-    let mut list = Seq::new(alloc);
-    list.push(item)?;
-    Ok(list)
-}
-
-fn statement(verdict: Verdict) -> Stmt
-    ensures { result ≡ statement verdict }
-{
-    match verdict {
-        Verdict::Accept => Stmt::Accept,
-        Verdict::Drop => Stmt::Drop,
-        Verdict::Reject(kind) => Stmt::Reject(kind),
-    }
-}
 
 /// Appends a rule that decides of every packet.
 pub fn push_always(alloc: Global, verdict: Verdict, rules: &mut Seq<Rule>) -> Result<(), Memory>

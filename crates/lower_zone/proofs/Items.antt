@@ -39,7 +39,7 @@ use Rattle.lower_zone.proofs.Built.{AreLeaves, leaves_other_icmp}
 use Rattle.lower_zone.proofs.Tells.{any_map, tells_icmp}
 use Rattle.lower_zone.proofs.Works.{adds_lists, adds_nothing, adds_own, adds_same}
 use Rattle.nf_chains.specs.Moments.{Moment}
-use Rattle.nf_eval.specs.Decisions.{can_reject}
+use Rattle.nf_chains.specs.Rejects.{can_reject}
 use Rattle.nf_rules.specs.declared.chain.Chain.{Chain}
 use Rattle.nf_rules.specs.declared.rule.Match.{Match}
 use Rattle.nf_rules.specs.declared.ruleset.Ruleset.{Ruleset}

@@ -8,12 +8,10 @@ use Rattle.fw_addr.specs.Subnets.{family}
 use Rattle.fw_addr.specs.declared.addr.Addr.{Addr}
 use Rattle.fw_addr.specs.declared.addr.Addr.TheVariants as addr
 use Rattle.fw_addr.specs.declared.limit.Limit.{Limit}
-use Rattle.fw_addr.specs.declared.limit.Unit.{Unit as Span}
-use Rattle.fw_addr.specs.declared.limit.Unit.TheVariants as unit
 use Rattle.fw_addr.specs.declared.packet.Family.TheVariants.{V4, V6}
 use Rattle.fw_hits.specs.Hits.{hits}
 use Rattle.fw_hits.specs.Plain.{is_icmp, is_icmpv4, is_icmpv6, is_ipv4}
-use Rattle.fw_limit.specs.Within.{is_same_limit as same_limit, is_same_unit as same_unit, is_within}
+use Rattle.fw_limit.specs.Within.{is_within}
 use Rattle.fw_model.specs.Packets.{IsPacket, is_v4}
 use Rattle.fw_model.specs.declared.config.Config.{Config}
 use Rattle.fw_model.specs.declared.ipset.IpSet.{IpSet}
@@ -29,7 +27,6 @@ use Rattle.lower_zone.specs.Forms.{icmp_alternatives, limit_matches, limited}
 use Rattle.lower_zone.specs.Work.{Tells, one_holds_at}
 use Rattle.nf_chains.specs.Moments.{Moment}
 use Rattle.nf_chains.specs.Tests.{match_at}
-use Rattle.nf_eval.specs.Tests.{is_same_limit, is_same_unit}
 use Rattle.nf_rules.specs.declared.rule.Match.{Match}
 use Rattle.nf_rules.specs.declared.ruleset.Ruleset.{Ruleset}
 use Rattle.nf_rules.specs.declared.set.NfSet.{NfSet}
@@ -98,31 +95,12 @@ tells_same config alternatives one other same is = record {
   stand = is.stand;
 }
 
-unit_same : (one other : Span) → same_unit one other ≡ is_same_unit one other
-unit_same unit.Second unit.Second = refl
-unit_same unit.Second unit.Minute = refl
-unit_same unit.Second unit.Hour = refl
-unit_same unit.Second unit.Day = refl
-unit_same unit.Minute unit.Second = refl
-unit_same unit.Minute unit.Minute = refl
-unit_same unit.Minute unit.Hour = refl
-unit_same unit.Minute unit.Day = refl
-unit_same unit.Hour unit.Second = refl
-unit_same unit.Hour unit.Minute = refl
-unit_same unit.Hour unit.Hour = refl
-unit_same unit.Hour unit.Day = refl
-unit_same unit.Day unit.Second = refl
-unit_same unit.Day unit.Minute = refl
-unit_same unit.Day unit.Hour = refl
-unit_same unit.Day unit.Day = refl
-
 -- a limit is passed where its test holds
 limit_holds : (sets : List NfSet) (leaving : Option (List ℕ)) (packet : Packet) (limit : Option Limit)
     → passes limit packet ≡ list_all (match_at leaving sets packet) (limit_matches limit)
 limit_holds sets leaving packet None = refl
 limit_holds sets leaving packet (Some limit) =
-    any_same (same_limit limit) (is_same_limit limit) (λ other. ap (λ (same : Bool). limit.count == other.count && same) (unit_same limit.unit other.unit)) packet.limits
-    ∙ sym (and_true (list_any (is_same_limit limit) packet.limits))
+    sym (and_true (is_within limit packet.limits))
 
 -- a limit looks up no set
 limited_stands : (rules : Ruleset) (limit : Option Limit) (alternatives : List (List Match)) → alternatives_stand rules alternatives ≡ true → alternatives_stand rules (limited limit alternatives) ≡ true

@@ -17,7 +17,7 @@ use Rattle.fw_model.specs.declared.setting.Setting.TheVariants as setting
 use Rattle.fw_verdict.specs.Rich.{passes, reject_type}
 use Rattle.fw_verdict.specs.Walk.{Item}
 use Rattle.fw_verdict.specs.Walk.Effect.{decide, log}
-use Rattle.nf_eval.specs.Decisions.{can_reject}
+use Rattle.nf_chains.specs.Rejects.{can_reject}
 
 -- the verdict of an action; a mark has none
 abbrev pub verdict_of : Act → Option Verdict

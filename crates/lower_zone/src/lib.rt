@@ -14,4 +14,5 @@ mod zone;
 
 pub use laws::blocks_are_apart;
 pub use policy::policy_chains;
+pub use rules::{one, statement};
 pub use zone::zone_chains;

@@ -72,7 +72,8 @@ pub fn push_each(
     Ok(())
 }
 
-fn statement(verdict: Verdict) -> Stmt
+/// The statement of a verdict.
+pub fn statement(verdict: Verdict) -> Stmt
     ensures { result ≡ statement verdict }
 {
     match verdict {

@@ -5,7 +5,7 @@ use Rattle.fw_addr.specs.declared.log.LogLine.{LogLine}
 use Rattle.fw_addr.specs.declared.reject.RejectType.{RejectType}
 use Rattle.fw_model.specs.declared.outcome.Verdict.{Verdict}
 use Rattle.fw_model.specs.declared.outcome.Verdict.TheVariants as verdict
-use Rattle.nf_eval.specs.Decisions.{can_reject}
+use Rattle.nf_chains.specs.Rejects.{can_reject}
 use Rattle.nf_rules.specs.declared.chain.Chain.{Chain}
 use Rattle.nf_rules.specs.declared.ruleset.Ruleset.{Ruleset}
 use Rattle.nf_rules.specs.declared.rule.Rule.{Rule}

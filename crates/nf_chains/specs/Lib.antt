@@ -3,6 +3,7 @@ pub mod Evaluation
 pub mod Hooks
 pub mod Laws
 pub mod Moments
+pub mod Rejects
 pub mod Runs
 pub mod Scenes
 pub mod Tests

@@ -16,7 +16,7 @@ use Rattle.nf_chains.specs.Hooks.{is_accept, next_at, route}
 use Rattle.nf_chains.specs.Tests.{match_at}
 use Rattle.nf_chains.specs.declared.flow.Flow.{Flow}
 use Rattle.nf_chains.specs.declared.flow.Flow.TheVariants as flow
-use Rattle.nf_eval.specs.Decisions.{can_reject}
+use Rattle.nf_chains.specs.Rejects.{can_reject}
 use Rattle.nf_rules.specs.declared.chain.Chain.{Chain}
 use Rattle.nf_rules.specs.declared.chain.Hook.{Hook}
 use Rattle.nf_rules.specs.declared.chain.Hook.TheVariants as hook

@@ -1,6 +1,6 @@
 //! The way of a packet through the rules of a chain and the chains that it leads to.
 ghost use Rattle.std.specs.Prelude.{◌≡◌, MatchResult, is_some, option_copied, true};
-ghost use Rattle.nf_eval.specs.Decisions.{can_reject};
+ghost use Rattle.nf_chains.specs.Rejects.{can_reject};
 ghost use Rattle.nf_sound.specs.Names.{AreByName};
 ghost use Rattle.nf_chains.specs.Runs.{Answers, Tells, decides, first_deciding, follow, one_rule};
 ghost use Rattle.nf_chains.specs.Scenes.{calls_in, look_in, run_base_in, run_in};

@@ -1,5 +1,2 @@
-pub mod Decisions
-pub mod Evaluation
 pub mod Sets
 pub mod Tests
-pub mod Verdicts

@@ -1,19 +1,16 @@
 -- When the tests of rules hold of a packet (nft(8), "EXPRESSIONS").
 use Rattle.std.specs.Prelude.{ℕ, List, Bool, true, false, not, ◌==◌, ◌&&◌, if◌then◌else◌, Option, None, Some}
-use Rattle.std.specs.List.{list_any}
 use Rattle.fw_addr.specs.Interfaces.{matches}
 use Rattle.fw_addr.specs.Ports.{in_range}
 use Rattle.fw_addr.specs.Protocols.{icmp_protocol, icmpv6_protocol, proto_number}
 use Rattle.fw_addr.specs.Subnets.{family, in_net}
-use Rattle.fw_addr.specs.declared.limit.Limit.{Limit}
 use Rattle.fw_addr.specs.declared.packet.CtState.{CtState}
 use Rattle.fw_addr.specs.declared.packet.CtState.TheVariants as state
 use Rattle.fw_addr.specs.declared.packet.Family.{Family}
 use Rattle.fw_addr.specs.declared.packet.Family.TheVariants as families
 use Rattle.fw_addr.specs.declared.packet.PktType.{PktType}
 use Rattle.fw_addr.specs.declared.packet.PktType.TheVariants as kind
-use Rattle.fw_addr.specs.declared.limit.Unit.{Unit}
-use Rattle.fw_addr.specs.declared.limit.Unit.TheVariants as unit
+use Rattle.fw_limit.specs.Within.{is_within}
 use Rattle.fw_model.specs.declared.packet.Origin.{Origin}
 use Rattle.fw_model.specs.declared.packet.Origin.TheVariants.{Host, Link}
 use Rattle.fw_model.specs.declared.packet.Packet.{Packet}
@@ -46,16 +43,6 @@ is_same_type kind.Unicast kind.Unicast = true
 is_same_type kind.Broadcast kind.Broadcast = true
 is_same_type kind.Multicast kind.Multicast = true
 is_same_type one other = false
-
-abbrev pub is_same_unit : Unit → Unit → Bool
-is_same_unit unit.Second unit.Second = true
-is_same_unit unit.Minute unit.Minute = true
-is_same_unit unit.Hour unit.Hour = true
-is_same_unit unit.Day unit.Day = true
-is_same_unit one other = false
-
-abbrev pub is_same_limit : Limit → Limit → Bool
-is_same_limit one other = one.count == other.count && is_same_unit one.unit other.unit
 
 -- The sender's hardware address is this one. A packet may have none.
 abbrev pub is_from : ℕ → Option ℕ → Bool
@@ -98,7 +85,7 @@ test_holds sets packet (test.Icmp of number) = packet.proto == icmp_number of &&
 test_holds sets packet (test.State of) = is_same_state packet.state of
 test_holds sets packet test.Dnat = packet.dnat
 -- LIMIT STATEMENT: the packet is within the limit
-test_holds sets packet (test.Limit limit) = list_any (is_same_limit limit) packet.limits
+test_holds sets packet (test.Limit limit) = is_within limit packet.limits
 
 -- `not` turns the whole test round.
 abbrev pub match_holds : List NfSet → Packet → Match → Bool

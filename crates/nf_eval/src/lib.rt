@@ -1,12 +1,7 @@
-//! What a ruleset makes of a packet, as nft(8) describes the evaluation of chains and rules.
+//! When the tests of rules hold of a packet, as nft(8) describes its expressions.
 #![tactic(auto)]
 
-mod decision;
-mod evaluation;
-mod laws;
 mod sets;
 mod test;
 
-pub use evaluation::{eval, eval_uncounted};
-pub use laws::{first_rule_decides, outcome_is_unique};
 pub use test::match_holds;

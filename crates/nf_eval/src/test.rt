@@ -1,11 +1,11 @@
 //! When the tests of rules hold of a packet.
 ghost use Rattle.std.specs.Prelude.{◌≡◌};
-ghost use Rattle.std.specs.List.{list_any};
 ghost use Rattle.fw_addr.specs.Subnets.{family};
-ghost use Rattle.nf_eval.specs.Tests.{came_in_by, icmp_number, is_from, is_from_set, is_same_family, is_same_limit, is_same_state, is_same_type, match_holds, test_holds};
+ghost use Rattle.nf_eval.specs.Tests.{came_in_by, icmp_number, is_from, is_from_set, is_same_family, is_same_state, is_same_type, match_holds, test_holds};
 
 use crate::sets::{holds_address, holds_mac, holds_port};
-use fw_addr::{Addr, CtState, Family, ICMP, ICMPV6, Iface, Limit, Mac, PktType};
+use fw_addr::{Addr, CtState, Family, ICMP, ICMPV6, Iface, Mac, PktType};
+use fw_limit::is_within;
 use fw_model::{Origin, Packet};
 use nf_rules::{Match, NfSet, Test};
 
@@ -65,18 +65,6 @@ fn icmp_number(family: Family) -> u8
         Family::V4 => ICMP,
         Family::V6 => ICMPV6,
     }
-}
-
-fn is_same_limit(one: &Limit, other: &Limit) -> bool
-    ensures { result ≡ is_same_limit one.now other.now }
-{
-    one == other
-}
-
-fn is_within(limit: &Limit, passed: &[Limit]) -> bool
-    ensures { result ≡ list_any (is_same_limit limit.now) passed.now }
-{
-    passed.iter().any(|one| is_same_limit(limit, one))
 }
 
 fn test_holds(sets: &[NfSet], packet: &Packet, test: &Test) -> bool

@@ -1,17 +1,17 @@
-use Rattle.std.proofs.Common.{append-nil, ◌≡◌, ◌∙◌, ◌++◌, List, take, sym, ap, subst, Bor}
+use Rattle.std.proofs.Common.{append-nil, ◌∙◌, ◌++◌, List, sym, ap, Bor}
 use Rattle.std.proofs.lemmas.List.{take_all}
 use Rattle.fw_model.specs.declared.zone.Zone.{Zone}
 use Rattle.fw_order.specs.Borrowed.{lent}
-use Rattle.fw_zone.specs.Lists.{IsIn}
 use Rattle.lower_hooks.specs.Chains.{HasChain}
+use Rattle.lower_hooks.specs.Leads.{HasLeads, IsOutputTarget}
 use Rattle.lower_hooks.specs.Names.{names_of, zone_names, output_start}
 use Rattle.lower_hooks.specs.Zones.{OutputStands, host_to_zone}
 use Rattle.lower_hooks.proofs.Named.{named_more}
-use Rattle.lower_hooks.proofs.Kept.{has_kept, grows_not, grows_on, one_more}
+use Rattle.lower_hooks.proofs.Kept.{has_kept, leads_kept, grows_not, grows_on, for_all, one_more}
 use Rattle.lower_hooks.proofs.chains.push_outputs.Goals as goal
 
 pub loop-zone-init : goal.loop-zone-init
-loop-zone-init c = (grows_not c.args.chains.now, λ zone among. absurd among, sym (append-nil (names_of c.args.chains.now)))
+loop-zone-init c = (grows_not c.args.chains.now, λ zone among. absurd among, sym (append-nil (names_of c.args.chains.now)), λ zone among. absurd among)
 
 pub loop-zone-preserved : goal.loop-zone-preserved
 loop-zone-preserved c =
@@ -22,16 +22,20 @@ loop-zone-preserved c =
           c.in_ok-push_output.ensures.there,
       named_more (λ (zone : Zone). output_start ++ zone.name) c.args.zones.now c.loop-zone.zone-index c.zone-item.result (names_of c.args.chains.now) _ _ c.loop-zone-test.true c.zone-item.is
           c.loop-zone.invariant.2 c.in_ok-push_output.ensures.names,
+      one_more (λ zone. HasLeads config (IsOutputTarget config zone) (output_start ++ zone.name) c.push_output.new.chains) c.args.zones.now c.loop-zone.zone-index c.zone-item.result c.loop-zone-test.true c.zone-item.is
+          (λ zone among. leads_kept config _ _ _ _ c.in_ok-push_output.ensures.grows (c.loop-zone.invariant.3 zone among))
+          c.in_ok-push_output.ensures.leads,
     )
 
 pub returns-clause-grows : goal.returns-clause-grows
 returns-clause-grows c = c.loop-zone.invariant.0
 
 pub returns-clause-there : goal.returns-clause-there
-returns-clause-there c = λ zone among.
-    c.loop-zone.invariant.1 zone
-    (subst (λ (list : List (Bor Zone)). IsIn zone (lent list)) (sym (take_all c.loop-zone.zone-index c.args.zones.now c.loop-zone-test.false)) among)
+returns-clause-there c = for_all _ c.args.zones.now c.loop-zone.zone-index c.loop-zone-test.false c.loop-zone.invariant.1
 
 pub returns-clause-names : goal.returns-clause-names
 returns-clause-names c =
     c.loop-zone.invariant.2 ∙ ap (λ (list : List (Bor Zone)). names_of c.args.chains.now ++ zone_names output_start (lent list)) (take_all c.loop-zone.zone-index c.args.zones.now c.loop-zone-test.false)
+
+pub returns-clause-leads : goal.returns-clause-leads
+returns-clause-leads c = for_all _ c.args.zones.now c.loop-zone.zone-index c.loop-zone-test.false c.loop-zone.invariant.3
