@@ -80,7 +80,12 @@ fn enter(zones: &mut Seq<Zone>, place: usize, name: Iface) -> Result<(), Memory>
 }
 
 /// A name that no zone in force has goes to the zone at a place.
-fn come(alloc: Global, settings: &mut Settings, place: usize, name: &Iface) -> Result<Answer, Memory>
+fn come(
+    alloc: Global,
+    settings: &mut Settings,
+    place: usize,
+    name: &Iface,
+) -> Result<Answer, Memory>
     requires { place < length settings.old.runtime.config.zones }
     ensures acts { (zone : Zone) → slice_get settings.old.runtime.config.zones place ≡ Some zone
         → IfOk result (λ answer. comes settings.old name.now (Some (record { place = place; zone = zone })) ≡ record { signals = answer.signals; reply = answer.reply; after = settings.new }) }
