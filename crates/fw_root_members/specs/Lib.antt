@@ -1,6 +1,4 @@
-pub mod Links
+pub mod Changing
 pub mod LogDenied
-pub mod Members
 pub mod Numbering
 pub mod Reloading
-pub mod Ticks

@@ -8,14 +8,10 @@ use Rattle.fw_model.specs.declared.config.Config.{Config}
 use Rattle.fw_model.specs.declared.policy.Policy.{Policy}
 use Rattle.fw_model.specs.declared.setting.Timed.{Timed}
 use Rattle.fw_model.specs.declared.zone.Zone.{Zone}
+use Rattle.fw_root_members.specs.declared.numbering.Numbers.{Numbers}
 use Rattle.fw_settings.specs.declared.settings.Settings.{Settings}
 use Rattle.fw_text.specs.Steps.{◌>>=◌}
 use Rattle.fw_zone_edits.specs.Endings.{all_ended}
-
--- the numbers of objects by their places, and the next number
-pub record Numbers : Type 0 where
-  pub numbers : List ℕ
-  pub next : ℕ
 
 -- the next number but one; the last number stays
 abbrev pub behind : (number : ℕ) → ℕ

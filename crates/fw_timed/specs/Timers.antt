@@ -33,6 +33,10 @@ is_due now timed = nat_le timed.deadline now
 abbrev pub ends_before : Timed → Timed → Bool
 ends_before one other = is_lt (nat_cmp one.deadline other.deadline)
 
+-- the timers whose time hasn't come
+abbrev pub not_due : List Timed → (now : ℕ) → List Timed
+not_due timers now = filter (λ timed. not (is_due now timed)) timers
+
 -- The timers whose time has come, by their deadlines, and those of one deadline in order of adding.
 abbrev pub due : List Timed → (now : ℕ) → List Timed
 due timers now = in_order ends_before (filter (is_due now) timers)

@@ -10,7 +10,7 @@ use fw_model::Timed;
 use std::alloc::Global;
 
 /// Whether a timer's deadline is `now` or earlier.
-fn is_due(now: u64, timed: &Timed) -> bool
+pub fn is_due(now: u64, timed: &Timed) -> bool
     ensures { result ≡ is_due now timed.now }
 {
     timed.deadline <= now

@@ -1,8 +1,8 @@
 //! The settings of zones that end by themselves.
 ghost use Rattle.std.specs.Prelude.{◌≡◌, ◌∷◌, [], ◌++◌, IfOk, OnOk, OnErr};
-ghost use Rattle.fw_timed.specs.Timers.{due, has_timer, is_of, without_timers};
+ghost use Rattle.fw_timed.specs.Timers.{due, has_timer, is_of, not_due, without_timers};
 
-use super::due::{by_deadline, due_timers};
+use super::due::{by_deadline, due_timers, is_due};
 use super::is_same;
 use fw_base::{Memory, Seq, TryCopy};
 use fw_model::{Setting, Timed};
@@ -64,6 +64,13 @@ impl Timers {
         was
     }
 
+    /// Takes away the timers whose deadline is `now` or earlier, in seconds; the others stay in their order. It takes no memory.
+    pub fn end_due(&mut self, now: u64)
+        ensures { self.new ≡ not_due self.old now }
+    {
+        keep_later(&mut self.timers, now);
+    }
+
     /// The timers whose deadline is `now` or earlier, in seconds: by deadline, and those of one deadline in order of adding.
     ///
     /// Refuses for want of memory alone.
@@ -94,6 +101,12 @@ fn keep_others(timers: &mut Vec<Timed>, zone: &str, setting: &Setting)
     ensures { timers.new.items ≡ without_timers zone.now setting.now timers.old.items }
 {
     timers.retain(|timed| !is_of(timed, zone, setting));
+}
+
+fn keep_later(timers: &mut Vec<Timed>, now: u64)
+    ensures { timers.new.items ≡ not_due timers.old.items now }
+{
+    timers.retain(|timed| !is_due(now, timed));
 }
 
 impl TryCopy for Timers {

@@ -1,7 +1,6 @@
 -- The time is told (this project's own; the settings that end are firewalld.dbus(5)'s, the argument `timeout` of `addService` and its
 -- kin). Time doesn't go back.
-use Rattle.std.specs.Prelude.{ℕ, not, List, map, max}
-use Rattle.std.specs.List.{filter}
+use Rattle.std.specs.Prelude.{ℕ, map, max}
 use Rattle.fw_act.specs.Acts.{Answered}
 use Rattle.fw_calls.specs.declared.applied.Applied.TheVariants as applied
 use Rattle.fw_calls.specs.declared.reply.Reply.TheVariants as reply
@@ -9,17 +8,13 @@ use Rattle.fw_calls.specs.declared.signal.Signal.{Signal}
 use Rattle.fw_model.specs.declared.setting.Timed.{Timed}
 use Rattle.fw_settings.specs.Parts.{with_timers, with_zones}
 use Rattle.fw_settings.specs.declared.settings.Settings.{Settings}
-use Rattle.fw_timed.specs.Timers.{due, is_due}
+use Rattle.fw_timed.specs.Timers.{due, not_due}
 use Rattle.fw_zone_edits.specs.Endings.{all_ended}
 use Rattle.fw_zone_edits.specs.Signals.{removed_signal}
 
 -- a setting that ended, as sessions are told of it
 abbrev pub ended_signal : Timed → Signal
 ended_signal timed = removed_signal timed.zone timed.setting
-
--- the timers whose time hasn't come
-abbrev pub not_due : List Timed → (now : ℕ) → List Timed
-not_due timers now = filter (λ timed. not (is_due now timed)) timers
 
 -- what is due by a time ends, each in its zone and with its signal
 abbrev pub at_time : Settings → (now : ℕ) → Answered Settings

@@ -24,15 +24,19 @@ seen = reply.Event applied.Skipped
 abbrev pub has_name : (name : List ℕ) → Zone → Bool
 has_name name zone = lists (entry.Interface name) zone
 
+-- one of some zones lists it
+abbrev pub some_has : (name : List ℕ) → List Zone → Bool
+some_has name zones = list_any (has_name name) zones
+
 -- a zone that is to have a name, among those in force
 abbrev pub is_home : (in_force : List Zone) → (name : List ℕ) → Zone → Bool
 is_home in_force name zone = has_name name zone && list_any (λ other. bytes_eq other.name zone.name) in_force
 
 -- the zone in force that is to have a name, by the permanent settings
-abbrev pub home : Settings → (name : List ℕ) → Option Found
-home settings name = do
-  zone ← find (is_home settings.runtime.config.zones name) settings.permanent.zones
-  zone_named settings.runtime.config.zones zone.name
+abbrev pub home : (in_force permanent : List Zone) → (name : List ℕ) → Option Found
+home in_force permanent name = do
+  zone ← find (is_home in_force name) permanent
+  zone_named in_force zone.name
 
 abbrev pub comes : Settings → (name : List ℕ) → Option Found → Answered Settings
 comes settings name None = replied settings seen
@@ -43,7 +47,7 @@ comes settings name (Some found) =
 -- A link came up: if no zone in force has it, it goes to its home.
 unfoldable pub link_up : Settings → (name : List ℕ) → Answered Settings
 link_up settings name =
-    if list_any (has_name name) settings.runtime.config.zones then replied settings seen else comes settings name (home settings name)
+    if some_has name settings.runtime.config.zones then replied settings seen else comes settings name (home settings.runtime.config.zones settings.permanent.zones name)
 
 -- the zone in force that has a name
 abbrev pub holder_of : List Zone → (name : List ℕ) → Option Found
@@ -61,7 +65,7 @@ goes settings name (Some found) =
 -- A link went: if no permanent zone has it, it leaves its zone.
 unfoldable pub link_gone : Settings → (name : List ℕ) → Answered Settings
 link_gone settings name =
-    if list_any (has_name name) settings.permanent.zones then replied settings seen
+    if some_has name settings.permanent.zones then replied settings seen
     else goes settings name (holder_of settings.runtime.config.zones name)
 
 abbrev pub linked : Settings → (up : Bool) → (name : List ℕ) → Answered Settings

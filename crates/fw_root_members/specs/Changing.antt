@@ -4,6 +4,7 @@ use Rattle.std.specs.Prelude.{ℕ, Bool, true, false, not, codes, List, [], ◌�
 use Rattle.std.specs.List.{list_any}
 use Rattle.std.specs.Str.{bytes_eq}
 use Rattle.fw_act.specs.Acts.{Answered, ◌>>=◌, changed, found_or, replied, required}
+use Rattle.fw_act.specs.declared.answer.Answer.{Answer}
 use Rattle.fw_calls.specs.declared.reply.Refusal.{Refusal}
 use Rattle.fw_calls.specs.declared.reply.Reply.TheVariants as reply
 use Rattle.fw_calls.specs.declared.signal.Arg.TheVariants as arg
@@ -50,18 +51,33 @@ abbrev pub with_default_zone : Settings → (zone : List ℕ) → Settings
 with_default_zone settings zone =
     record (with_config settings (record settings.runtime.config { default_zone = zone })) { permanent = record settings.permanent { default_zone = zone } }
 
+-- the signal of this
+abbrev pub default_zone_changed : (zone : List ℕ) → Answer
+default_zone_changed zone = record { signals = with_text signal.RootDefaultZoneChanged zone ∷ []; reply = reply.None }
+
 -- `setDefaultZone(zone)`
 unfoldable pub set_default_zone_member : Settings → (zone : List ℕ) → Result (Answered Settings) Refusal
 set_default_zone_member settings zone = do
   in_force ← required (has_zone settings.runtime.config zone) code.InvalidZone zone
   kept ← required (has_zone settings.permanent zone) code.InvalidZone zone
   other ← required (not (bytes_eq settings.runtime.config.default_zone zone)) code.ZoneAlreadySet zone
-  Ok (changed (with_text signal.RootDefaultZoneChanged zone) reply.None (with_default_zone settings zone))
+  Ok (record {
+    signals = (default_zone_changed zone).signals;
+    reply = (default_zone_changed zone).reply;
+    after = with_default_zone settings zone;
+  })
 
 -- denied packets are logged otherwise, by both configurations
 abbrev pub with_log_denied : Settings → LogDenied → Settings
 with_log_denied settings denied =
     record (with_config settings (record settings.runtime.config { log_denied = denied })) { permanent = record settings.permanent { log_denied = denied } }
+
+-- the signals of this, one behind the other
+abbrev pub log_denied_changed : (value : List ℕ) → Answer
+log_denied_changed value = record {
+  signals = with_text signal.RootLogDeniedChanged value ∷ plain signal.RootReloaded ∷ [];
+  reply = reply.None;
+}
 
 -- `setLogDenied(value)`, which reloads, too
 unfoldable pub set_log_denied_member : Settings → (value : List ℕ) → Result (Answered Settings) Refusal
@@ -69,8 +85,8 @@ set_log_denied_member settings value = do
   denied ← found_or code.InvalidValue value (log_denied value)
   other ← required (not (same_log_denied settings.runtime.config.log_denied denied)) code.AlreadySet value
   Ok (record {
-    signals = with_text signal.RootLogDeniedChanged value ∷ plain signal.RootReloaded ∷ [];
-    reply = reply.None;
+    signals = (log_denied_changed value).signals;
+    reply = (log_denied_changed value).reply;
     after = reloaded (with_log_denied settings denied);
   })
 
