@@ -1,0 +1,4 @@
+//! What is written of the permanent settings is read as these settings.
+#![tactic(auto)]
+
+mod laws;
