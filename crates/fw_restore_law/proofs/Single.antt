@@ -22,6 +22,7 @@ use Rattle.fw_model.specs.declared.rich.Rich.{Rich}
 use Rattle.fw_rich.specs.Canonical.{canon}
 use Rattle.fw_rich_law.specs.Values.{HasValues, IsAddress, IsBinding, IsForward, IsNet, IsRange}
 use Rattle.fw_restore_law.specs.Ranges.{IsEntry, IsI32, IsPort}
+use Rattle.fw_restore_law.specs.Printed.{Printed}
 use Rattle.fw_store.specs.Objects.{forward_data, list_of, port_data}
 use Rattle.fw_store.specs.Texts.{destination_text, entry_text, source_text, to_addr_text, to_port_text}
 use Rattle.fw_valid.specs.Each.{Each, IfThere}
@@ -29,18 +30,6 @@ use Rattle.fw_valid.specs.Riches.{IsRich}
 use Rattle.serde_json.specs.Data.{Data, number, string}
 use Rattle.serde_json.specs.Find.{get, of_integer}
 use Rattle.serde_json.specs.View.{items_of}
-
--- that the text of each single value is read as the value
-pub record Printed : Type 0 where
-  pub numbers : (n : ℕ) → n < 2 ^ 16 → port_number (decimal n) ≡ Some n
-  pub ports : (range : Range) → IsRange range → port_range (ports_text range) ≡ Some range
-  pub port_protocols : (protocol : PortProto) → port_proto (port_proto_text protocol) ≡ Some protocol
-  pub protocols : (n : ℕ) → n < 2 ^ 8 → said.protocol (proto_text n) ≡ Some n
-  pub hosts : (addr : Addr) → IsAddress addr → said.host (address_text addr) ≡ Some addr
-  pub nets : (net : Subnet) → IsNet net → said.network (net_text net) ≡ Some net
-  pub sources : (source : Binding) → IsBinding source → said.source (source_text source) ≡ Some source
-  pub entries : (entry : Item) → IsEntry entry → said.entry (entry_text entry) ≡ Some entry
-  pub rich : (rule : Rich) → HasValues rule → IsRich rule → said.rich (canon rule) ≡ Some rule
 
 -- ---- lists and keys
 
