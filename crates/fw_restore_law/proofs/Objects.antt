@@ -1,7 +1,7 @@
 -- Objects of the permanent settings: what is written is read.
-use Rattle.std.proofs.Common.{◌≡◌, ◌∙◌, ℕ, ◌<◌, ◌^◌, List, [], ◌∷◌, ◌++◌, Some, Result, Ok, IsTrue, codes, map, refl, ap}
+use Rattle.std.proofs.Common.{◌≡◌, ◌<◌, ◌^◌, List, [], ◌∷◌, ◌++◌, Ok, IsTrue, codes, map, refl, ap}
 use Rattle.fw_addr.specs.Interfaces.{interface, is_interface}
-use Rattle.fw_load.specs.Fields.{◌>>=◌, field, known, list_in}
+use Rattle.fw_load.specs.Fields.{field, known, list_in}
 use Rattle.fw_load.specs.Objects as objects
 use Rattle.fw_load.specs.Values as said
 use Rattle.fw_model.specs.declared.config.Config.{Config}
@@ -21,18 +21,18 @@ use Rattle.fw_model.specs.declared.zone.Zone.{Zone}
 use Rattle.fw_model.specs.declared.zone.ZoneTarget.{ZoneTarget}
 use Rattle.fw_model.specs.declared.zone.ZoneTarget.TheVariants as zones
 use Rattle.fw_restore_law.proofs.Single.{destination_read, field_read, forward_read, interface_read, list_read, names_read, port_read, whole_read}
-use Rattle.fw_restore_law.specs.Printed.{Printed}
+use Rattle.fw_restore_law.proofs.Printed.{Printed}
 use Rattle.fw_restore_law.specs.Ranges.{IsEntry, IsInRange, IsPolicyInRange, IsPort, IsServiceInRange, IsSetInRange, IsZoneInRange}
 use Rattle.fw_rich.specs.Canonical.{canon}
 use Rattle.fw_rich_law.specs.Values.{HasValues, IsBinding, IsForward}
-use Rattle.fw_store.specs.Objects.{config_data, forward_data, ipset_data, list_of, policy_data, port_data, service_data, texts_of, zone_data}
+use Rattle.fw_store.specs.Objects.{config_data, forward_data, ipset_data, policy_data, port_data, service_data, zone_data}
 use Rattle.fw_store.specs.Texts.{entry_text, kind_text, log_denied_text, policy_target_text, set_family_text, source_text, zone_target_text}
 use Rattle.fw_valid.specs.Each.{Each}
 use Rattle.fw_valid.specs.Riches.{IsRich}
 use Rattle.fw_valid.specs.Valid.{AreWritten, IsValid}
 use Rattle.fw_addr.specs.Protocols.{proto_text}
 use Rattle.fw_text.specs.Names.{named}
-use Rattle.serde_json.specs.Data.{Data, string}
+use Rattle.serde_json.specs.Data.{string}
 
 kind_read : (kind : SetKind) → said.text_by (named said.kind_names) (string (kind_text kind)) ≡ Ok kind
 kind_read kinds.Ip = refl

@@ -1,32 +1,23 @@
 -- Single values of the permanent settings, lists of them and what stands under a key: what is written is read.
-use Rattle.std.proofs.Common.{◌≡◌, ◌∙◌, ℕ, suc, ◌<◌, ◌^◌, List, [], ◌∷◌, map, Option, None, Some, Result, Ok, Err, IsTrue, ℤ, pos, negsuc, decimal, nat_lt, refl, sym, ap, arith}
-use Rattle.std.specs.Option.{option_map, option_and_then}
+use Rattle.std.proofs.Common.{◌≡◌, ◌∙◌, ℕ, suc, ◌<◌, ◌^◌, List, [], ◌∷◌, map, Option, None, Some, Result, Ok, IsTrue, ℤ, pos, negsuc, decimal, refl, ap, arith}
+use Rattle.std.specs.Option.{option_map}
 use Rattle.std.proofs.lemmas.Bool.{lt-ltb}
 use Rattle.fw_addr.specs.Interfaces.{interface, is_interface}
-use Rattle.fw_addr.specs.Ports.{Range, port as port_number, port_range, ports_text}
-use Rattle.fw_addr.specs.Protocols.{port_proto, port_proto_text, proto_text}
+use Rattle.fw_addr.specs.Ports.{port as port_number}
 use Rattle.fw_addr.specs.Canonical.{address_text}
 use Rattle.fw_addr.specs.Nets.{net_text}
 use Rattle.fw_addr.specs.Subnets.{Subnet}
 use Rattle.fw_addr.specs.declared.addr.Addr.{Addr}
-use Rattle.fw_addr.specs.declared.packet.Family.{Family}
-use Rattle.fw_addr.specs.declared.packet.Family.TheVariants as families
-use Rattle.fw_addr.specs.declared.proto.PortProto.{PortProto}
-use Rattle.fw_load.specs.Fields.{◌>>=◌, behind, elements, field, found_by, list_in}
+use Rattle.fw_load.specs.Fields.{behind, elements, field, found_by, list_in}
 use Rattle.fw_load.specs.Values as said
-use Rattle.fw_model.specs.declared.binding.Binding.{Binding}
 use Rattle.fw_model.specs.declared.forward.Forward.{Forward}
-use Rattle.fw_model.specs.declared.ipset.Item.{Item}
 use Rattle.fw_model.specs.declared.port.Port.{Port}
-use Rattle.fw_model.specs.declared.rich.Rich.{Rich}
-use Rattle.fw_rich.specs.Canonical.{canon}
-use Rattle.fw_rich_law.specs.Values.{HasValues, IsAddress, IsBinding, IsForward, IsNet, IsRange}
-use Rattle.fw_restore_law.specs.Ranges.{IsEntry, IsI32, IsPort}
-use Rattle.fw_restore_law.specs.Printed.{Printed}
+use Rattle.fw_rich_law.specs.Values.{IsAddress, IsForward, IsNet}
+use Rattle.fw_restore_law.specs.Ranges.{IsI32, IsPort}
+use Rattle.fw_restore_law.proofs.Printed.{Printed}
 use Rattle.fw_store.specs.Objects.{forward_data, list_of, port_data}
-use Rattle.fw_store.specs.Texts.{destination_text, entry_text, source_text, to_addr_text, to_port_text}
+use Rattle.fw_store.specs.Texts.{destination_text, to_addr_text, to_port_text}
 use Rattle.fw_valid.specs.Each.{Each, IfThere}
-use Rattle.fw_valid.specs.Riches.{IsRich}
 use Rattle.serde_json.specs.Data.{Data, number, string}
 use Rattle.serde_json.specs.Find.{get, of_integer}
 use Rattle.serde_json.specs.View.{items_of}

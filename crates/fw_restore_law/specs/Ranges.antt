@@ -1,5 +1,5 @@
 -- What the types of a configuration's values hold: numbers of so many bits, nets without bits behind their prefixes, names of interfaces.
-use Rattle.std.specs.Prelude.{◌<◌, ◌^◌, ℤ, pos, negsuc, List, IsTrue}
+use Rattle.std.specs.Prelude.{◌<◌, ◌^◌, ℤ, pos, negsuc, IsTrue}
 use Rattle.fw_addr.specs.Interfaces.{is_interface}
 use Rattle.fw_model.specs.declared.config.Config.{Config}
 use Rattle.fw_model.specs.declared.ipset.IpSet.{IpSet}

@@ -1,5 +1,5 @@
 -- Which texts of single values are read as these values.
-use Rattle.std.specs.Prelude.{◌≡◌, ℕ, ◌<◌, ◌^◌, Some, decimal}
+use Rattle.std.proofs.Common.{◌≡◌, ℕ, ◌<◌, ◌^◌, Some, decimal}
 use Rattle.fw_addr.specs.Canonical.{address_text}
 use Rattle.fw_addr.specs.Nets.{net_text}
 use Rattle.fw_addr.specs.Ports.{Range, port as port_number, port_range, ports_text}
