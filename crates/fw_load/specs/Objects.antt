@@ -70,7 +70,14 @@ service value = do
   v4 ← field (text_by (unless_empty network)) (codes "destination_v4") value
   v6 ← field (text_by (unless_empty network)) (codes "destination_v6") value
   Ok (record {
-    name = name; includes = includes; ports = ports; protocols = protocols; source_ports = source_ports; v4 = v4; v6 = v6 })
+    name = name;
+    includes = includes;
+    ports = ports;
+    protocols = protocols;
+    source_ports = source_ports;
+    v4 = v4;
+    v6 = v6;
+  })
 
 -- what an administrator notes
 unfoldable pub notes : Data → Result Notes (List ℕ)
@@ -89,7 +96,12 @@ listed value = do
   source_ports ← field (list_in port) (codes "source_ports") value
   icmp_blocks ← field (list_in text) (codes "icmp_blocks") value
   Ok (record {
-    services = services; ports = ports; protocols = protocols; source_ports = source_ports; icmp_blocks = icmp_blocks })
+    services = services;
+    ports = ports;
+    protocols = protocols;
+    source_ports = source_ports;
+    icmp_blocks = icmp_blocks;
+  })
 
 -- and what follows, with rich rules under a key that differs
 unfoldable pub translated : (rich_key : List ℕ) → Data → Result Translated (List ℕ)
@@ -102,8 +114,15 @@ translated rich_key value = do
 -- these two together
 abbrev pub rules_of : Listed → Translated → Rules
 rules_of listed translated = record {
-  services = listed.services; ports = listed.ports; protocols = listed.protocols; source_ports = listed.source_ports;
-  icmp_blocks = listed.icmp_blocks; masquerade = translated.masquerade; forwards = translated.forwards; rich = translated.rich }
+  services = listed.services;
+  ports = listed.ports;
+  protocols = listed.protocols;
+  source_ports = listed.source_ports;
+  icmp_blocks = listed.icmp_blocks;
+  masquerade = translated.masquerade;
+  forwards = translated.forwards;
+  rich = translated.rich;
+}
 
 unfoldable pub zone : Data → Result Zone (List ℕ)
 zone value = do
@@ -118,8 +137,15 @@ zone value = do
   sources ← field (list_in (text_by source)) (codes "sources") value
   forward ← field truth (codes "forward") value
   Ok (record {
-    name = name; notes = notes; target = target; rules = rules_of listed translated; inversion = inversion; forward = forward;
-    interfaces = interfaces; sources = sources })
+    name = name;
+    notes = notes;
+    target = target;
+    rules = rules_of listed translated;
+    inversion = inversion;
+    forward = forward;
+    interfaces = interfaces;
+    sources = sources;
+  })
 
 unfoldable pub policy : Data → Result Policy (List ℕ)
 policy value = do
@@ -133,8 +159,14 @@ policy value = do
   listed ← listed value
   translated ← translated (codes "rich_rules") value
   Ok (record {
-    name = name; notes = notes; target = target; priority = priority; ingress = ingress; egress = egress;
-    rules = rules_of listed translated })
+    name = name;
+    notes = notes;
+    target = target;
+    priority = priority;
+    ingress = ingress;
+    egress = egress;
+    rules = rules_of listed translated;
+  })
 
 -- the number of the first format
 abbrev pub first : ℕ → Option FirstFormat
@@ -156,7 +188,13 @@ settings value = do
   services ← field (list_in service) (codes "services") value
   ipsets ← field (list_in ipset) (codes "ipsets") value
   Ok (record {
-    default_zone = default_zone; log_denied = log_denied; zones = zones; policies = policies; services = services; ipsets = ipsets })
+    default_zone = default_zone;
+    log_denied = log_denied;
+    zones = zones;
+    policies = policies;
+    services = services;
+    ipsets = ipsets;
+  })
 
 -- all permanent settings: the format before all else, then the keys, and then what stands under them
 unfoldable pub config : Data → Result Config (List ℕ)

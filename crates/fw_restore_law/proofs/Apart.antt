@@ -41,7 +41,8 @@ glyph d small = record {
   colon = agree_below_at (λ n. digit_glyph false n == 58) (λ _. false) 16 d refl small;
   slash = agree_below_at (λ n. digit_glyph false n == 47) (λ _. false) 16 d refl small;
   dot = agree_below_at (λ n. digit_glyph false n == 46) (λ _. false) 16 d refl small;
-  letter = agree_below_at (λ n. digit_glyph false n == 105) (λ _. false) 16 d refl small }
+  letter = agree_below_at (λ n. digit_glyph false n == 105) (λ _. false) 16 d refl small;
+}
 
 -- ---- pieces
 

@@ -28,4 +28,3 @@ pub record Printed : Type 0 where
   pub sources : (source : Binding) → IsBinding source → said.source (source_text source) ≡ Some source
   pub entries : (entry : Item) → IsEntry entry → said.entry (entry_text entry) ≡ Some entry
   pub rich : (rule : Rich) → HasValues rule → IsRich rule → said.rich (canon rule) ≡ Some rule
-

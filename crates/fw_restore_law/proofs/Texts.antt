@@ -89,4 +89,5 @@ printed laws = record {
   nets = network_read laws;
   sources = source_read laws;
   entries = entry_read laws;
-  rich = λ rule values is. ap result_ok (laws.rules rule values is) }
+  rich = λ rule values is. ap result_ok (laws.rules rule values is);
+}

@@ -12,10 +12,12 @@ returns-clause-said c = config_read (printed (record {
   macs = c.printed_hardware_addresses_are_read.ensures;
   addresses = c.printed_addresses_are_read.ensures;
   nets = c.printed_nets_are_read.ensures;
-  rules = c.canonical_texts_are_read.ensures.read }))
+  rules = c.canonical_texts_are_read.ensures.read;
+}))
 
 pub returns-clause-reads : goal.returns-clause-reads
 returns-clause-reads c text written utf8 read range valid = record {
   value = config_data written;
   json = record { utf8 = utf8; reads = read };
-  says = returns-clause-said c written range valid }
+  says = returns-clause-said c written range valid;
+}
