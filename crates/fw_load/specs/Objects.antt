@@ -1,9 +1,8 @@
 -- What JSON objects say of the parts of the permanent settings, and of all of them, in the first format. Each object has exactly the keys
 -- of its table. The first fault is a key that it lacks or has besides, the least in byte order, and then one in what stands under its
 -- keys: first `name`, then the keys of settings dicts in the order of firewalld.dbus(5).
-use Rattle.std.specs.Prelude.{ℕ, ◌==◌, List, [], ◌∷◌, Bool, Option, Some, None, option_and_then, option_map, Result, Ok, codes, if◌then◌else◌}
+use Rattle.std.specs.Prelude.{ℕ, ◌==◌, List, [], ◌∷◌, Option, Some, None, option_and_then, option_map, Result, Ok, codes, if◌then◌else◌}
 use Rattle.fw_addr.specs.Interfaces.{interface}
-use Rattle.fw_addr.specs.declared.packet.Family.{Family}
 use Rattle.fw_load.specs.Fields.{◌>>=◌, field, known, list_in}
 use Rattle.fw_load.specs.Values.{entry, family_names, forward, kind_names, log_denied_names, network, or_fault, policy_target_names, port, protocol, rich, source, text, text_by, truth, unless_empty, whole, zone_target_names}
 use Rattle.fw_load.specs.declared.format.FirstFormat.{FirstFormat}
