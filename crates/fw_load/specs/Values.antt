@@ -56,7 +56,7 @@ within_i32 (negsuc n) = if nat_lt n (2 ^ 31) then Some (negsuc n) else None
 abbrev pub whole : Data → Result ℤ (List ℕ)
 whole value = or_fault (option_and_then within_i32 (option_and_then as_i64 (as_number value)))
 
-abbrev pub log_denied_names : List (List ℕ × LogDenied)
+unfoldable pub log_denied_names : List (List ℕ × LogDenied)
 log_denied_names =
     (codes "off", logs.Off) ∷ (codes "all", logs.All) ∷ (codes "unicast", logs.Unicast)
     ∷ (codes "broadcast", logs.Broadcast) ∷ (codes "multicast", logs.Multicast) ∷ []

@@ -2,8 +2,11 @@
 #![tactic(auto)]
 
 mod fields;
+mod format;
 mod lists;
 mod names;
+mod objects;
+mod parts;
 mod single;
 mod stop;
 mod texts;

@@ -18,6 +18,7 @@ impl Told for LogDenied {
     }
 }
 
+#[tactic(auto, unfolding(crate::specs::Values::log_denied_names))]
 fn log_denied(text: &str) -> Option<LogDenied>
     ensures { result ≡ named log_denied_names text.now }
 {

@@ -1,6 +1,6 @@
 -- The settings in force become the permanent ones (firewalld.dbus(5), `runtimeToPermanent`). That settings which end by themselves are
 -- left out, and which numbers zones and policies have afterwards, is this project's own.
-use Rattle.std.specs.Prelude.{ℕ, ◌+◌, ◌-◌, ◌^◌, min, List, [], ◌∷◌, ◌++◌, fold, map, Option, None, Some, position, slice_get}
+use Rattle.std.specs.Prelude.{ℕ, ◌+◌, ◌-◌, ◌^◌, min, List, [], ◌∷◌, ◌++◌, fold, Option, None, Some, position, slice_get}
 use Rattle.std.specs.Str.{bytes_eq}
 use Rattle.fw_act.specs.Acts.{Answered, replied}
 use Rattle.fw_calls.specs.declared.reply.Reply.TheVariants as reply
@@ -17,10 +17,10 @@ use Rattle.fw_zone_edits.specs.Endings.{all_ended}
 abbrev pub behind : (number : ℕ) → ℕ
 behind number = min (number + 1) (2 ^ 64 - 1)
 
--- the number of the object of a name, of names and their numbers
-abbrev pub number_of : (names : List (List ℕ)) → (numbers : List ℕ) → (name : List ℕ) → Option ℕ
-number_of names numbers name = do
-  place ← position (λ other. bytes_eq other name) names
+-- the number of the object of a name, of objects and their numbers
+abbrev pub number_of : {T : Type 0} → (name_of : T → List ℕ) → List T → (numbers : List ℕ) → (name : List ℕ) → Option ℕ
+number_of name_of objects numbers name = do
+  place ← position (λ object. bytes_eq (name_of object) name) objects
   slice_get numbers place
 
 -- an object more: it keeps its number, or gets the next
@@ -28,16 +28,10 @@ abbrev pub with_number : Numbers → Option ℕ → Numbers
 with_number so_far (Some number) = record so_far { numbers = so_far.numbers ++ number ∷ [] }
 with_number so_far None = record { numbers = so_far.numbers ++ so_far.next ∷ []; next = behind so_far.next }
 
--- the numbers of new names, by those of old ones
-abbrev pub numbered : (names : List (List ℕ)) → (numbers : List ℕ) → (next : ℕ) → (new : List (List ℕ)) → Numbers
-numbered names numbers next new =
-    fold (λ so_far name. with_number so_far (number_of names numbers name)) (record { numbers = []; next = next }) new
-
-abbrev pub zone_names : Config → List (List ℕ)
-zone_names config = map (λ (zone : Zone). zone.name) config.zones
-
-abbrev pub policy_names : Config → List (List ℕ)
-policy_names config = map (λ (policy : Policy). policy.name) config.policies
+-- the numbers of new objects, by those of old ones
+abbrev pub numbered : {T : Type 0} → (name_of : T → List ℕ) → List T → (numbers : List ℕ) → (next : ℕ) → (new : List T) → Numbers
+numbered name_of objects numbers next new =
+    fold (λ so_far object. with_number so_far (number_of name_of objects numbers (name_of object))) (record { numbers = []; next = next }) new
 
 -- a configuration in which all that ends by itself ended
 abbrev pub lasting : Config → List Timed → Config
@@ -45,11 +39,12 @@ lasting config timers = record config { zones = all_ended config.zones timers }
 
 -- the numbers of the zones and of the policies in force, as they will be the permanent ones
 abbrev pub zone_numbers : Settings → Numbers
-zone_numbers settings = numbered (zone_names settings.permanent) settings.zone_ids settings.next_zone (zone_names settings.runtime.config)
+zone_numbers settings =
+    numbered (λ (zone : Zone). zone.name) settings.permanent.zones settings.zone_ids settings.next_zone settings.runtime.config.zones
 
 abbrev pub policy_numbers : Settings → Numbers
 policy_numbers settings =
-    numbered (policy_names settings.permanent) settings.policy_ids settings.next_policy (policy_names settings.runtime.config)
+    numbered (λ (policy : Policy). policy.name) settings.permanent.policies settings.policy_ids settings.next_policy settings.runtime.config.policies
 
 unfoldable pub to_permanent : Settings → Settings
 to_permanent settings = record settings {

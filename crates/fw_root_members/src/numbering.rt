@@ -1,12 +1,12 @@
 //! The settings in force become the permanent ones.
-ghost use Rattle.std.specs.Prelude.{◌≡◌, IfOk, OnErr, OnOk};
-ghost use Rattle.fw_order.specs.Borrowed.{lent};
-ghost use Rattle.fw_root_members.specs.Numbering.{behind, lasting, number_of, numbered, policy_names, policy_numbers, to_permanent_member, with_number, zone_names, zone_numbers};
+ghost use Rattle.std.specs.Prelude.{◌≡◌, ℕ, List, position, IfOk, OnErr, OnOk};
+ghost use Rattle.std.specs.Str.{bytes_eq};
+ghost use Rattle.fw_root_members.specs.Numbering.{behind, lasting, number_of, numbered, policy_numbers, to_permanent_member, with_number, zone_numbers};
 
 use fw_act::{Answer, replied};
 use fw_base::{Memory, Seq, TryCopy};
 use fw_calls::Reply;
-use fw_model::{Config, Timed};
+use fw_model::{Config, Policy, Timed, Zone};
 use fw_settings::Settings;
 use fw_zone_edits::end_all;
 use std::alloc::Global;
@@ -18,12 +18,44 @@ pub struct Numbers {
     pub next: u64,
 }
 
-/// The number of the object of a name, of names and their numbers.
-fn number_of(names: &[&str], numbers: &[u64], name: &str) -> Option<u64>
-    ensures { result ≡ number_of (lent names.now) numbers.now name.now }
+/// Objects that have names and numbers.
+trait Named {
+    ghost name_of: { Self → List ℕ };
+
+    fn name(&self) -> &str
+        ensures { result.now ≡ name_of self.now };
+}
+
+impl Named for Zone {
+    ghost name_of = { λ zone. zone.name };
+
+    fn name(&self) -> &str {
+        self.name.as_str()
+    }
+}
+
+impl Named for Policy {
+    ghost name_of = { λ policy. policy.name };
+
+    fn name(&self) -> &str {
+        self.name.as_str()
+    }
+}
+
+fn place_of<T: Named>(objects: &[T], name: &str) -> Option<usize>
+    ensures { result ≡ position (λ object. bytes_eq (T.name_of object) name.now) objects.now }
 {
-    let place = names.iter().position(|other| *other == name)?;
-    numbers.get(place).copied()
+    objects.iter().position(|object| object.name() == name)
+}
+
+/// The number of the object of a name, of objects and their numbers.
+fn number_of<T: Named>(objects: &[T], numbers: &[u64], name: &str) -> Option<u64>
+    ensures { result ≡ number_of T.name_of objects.now numbers.now name.now }
+{
+    match place_of(objects, name) {
+        Some(place) => numbers.get(place).copied(),
+        None => None,
+    }
 }
 
 /// The next number but one; the last number stays.
@@ -47,73 +79,49 @@ fn number_one(so_far: &mut Numbers, number: Option<u64>) -> Result<(), Memory>
     }
 }
 
-/// The numbers of new names, by those of old ones.
-fn numbered(
+/// The numbers of new objects, by those of old ones.
+fn numbered<T: Named>(
     alloc: Global,
-    names: &[&str],
+    objects: &[T],
     numbers: &[u64],
     next: u64,
-    new: &[&str],
+    new: &[T],
 ) -> Result<Numbers, Memory>
-    ensures { IfOk result (λ made. made ≡ numbered (lent names.now) numbers.now next (lent new.now)) }
+    ensures { IfOk result (λ made. made ≡ numbered T.name_of objects.now numbers.now next new.now) }
 {
     let mut made = Numbers {
         numbers: Seq::new(alloc),
         next,
     };
-    for name in new {
-        number_one(&mut made, number_of(names, numbers, name))?;
+    for object in new {
+        number_one(&mut made, number_of(objects, numbers, object.name()))?;
     }
     Ok(made)
 }
 
-fn zone_names(alloc: Global, config: &Config) -> Result<Vec<&str>, Memory>
-    ensures { IfOk result (λ names. lent names.items ≡ zone_names config.now) }
-{
-    let mut names = Vec::new(alloc);
-    for zone in config.zones.as_slice() {
-        names.push(zone.name.as_str())?;
-    }
-    Ok(names)
-}
-
-fn policy_names(alloc: Global, config: &Config) -> Result<Vec<&str>, Memory>
-    ensures { IfOk result (λ names. lent names.items ≡ policy_names config.now) }
-{
-    let mut names = Vec::new(alloc);
-    for policy in config.policies.as_slice() {
-        names.push(policy.name.as_str())?;
-    }
-    Ok(names)
-}
-
 /// The numbers of the zones in force, as they will be the permanent ones.
 fn zone_numbers(alloc: Global, settings: &Settings) -> Result<Numbers, Memory>
-    ensures { IfOk result (λ made. made ≡ zone_numbers settings.now) }
+    ensures { IfOk result (λ made. made ≡ zone_numbers settings.entry.now) }
 {
-    let old = zone_names(alloc, &settings.permanent)?;
-    let new = zone_names(alloc, &settings.runtime.config)?;
     numbered(
         alloc,
-        old.as_slice(),
+        settings.permanent.zones.as_slice(),
         settings.zone_ids.as_slice(),
         settings.next_zone,
-        new.as_slice(),
+        settings.runtime.config.zones.as_slice(),
     )
 }
 
 /// Those of the policies in force.
 fn policy_numbers(alloc: Global, settings: &Settings) -> Result<Numbers, Memory>
-    ensures { IfOk result (λ made. made ≡ policy_numbers settings.now) }
+    ensures { IfOk result (λ made. made ≡ policy_numbers settings.entry.now) }
 {
-    let old = policy_names(alloc, &settings.permanent)?;
-    let new = policy_names(alloc, &settings.runtime.config)?;
     numbered(
         alloc,
-        old.as_slice(),
+        settings.permanent.policies.as_slice(),
         settings.policy_ids.as_slice(),
         settings.next_policy,
-        new.as_slice(),
+        settings.runtime.config.policies.as_slice(),
     )
 }
 
