@@ -1,0 +1,3 @@
+pub mod EndSteps
+pub mod EndLaws
+pub mod Eights

@@ -1,0 +1,6 @@
+//! Values of D-Bus held as the bytes that spell them.
+#![tactic(auto)]
+
+mod ends;
+mod fields;
+mod strings;
