@@ -20,13 +20,9 @@ use Rattle.dbus_wire.specs.Packing.{array_of}
 use Rattle.dbus_wire.specs.Texts.{is_string, is_text, is_path}
 use Rattle.dbus_wire.specs.Values.{array_at, as_value, basic_value_at, closed_value_by, contents_at, entry_at, items_at, members_at, pair_at, struct_at, value_at, value_by, variant_at, whole_items}
 use Rattle.dbus_wire.proofs.ArrayLaws.{array_opens, bind_assoc}
-use Rattle.dbus_held.specs.Ends.{Ending, array_end, basic_end, bool_end, byte_end, closed_end_by, contents_end, ended_end, entry_end, is_path_text, items_end, members_end, number_end, only_type, pair_end, signature_end, skip_at, struct_end, text_end, truth_end, type_end, value_end, value_end_by, variant_end}
+use Rattle.dbus_held.specs.Ends.{Ending, array_end, basic_end, bool_end, byte_end, closed_end_by, contents_end, ended_end, entry_end, forget, is_path_text, items_end, members_end, number_end, only_type, pair_end, signature_end, skip_at, struct_end, text_end, truth_end, type_end, value_end, value_end_by, variant_end}
 
 -- ---- steps in a row
-
--- what was read is thrown away
-abbrev pub forget : {A : Type 0} → Read A → Read (Unit {0})
-forget read = read >>= λ x. Ok (tt, x.1, x.2)
 
 along : {A B : Type 0} (r : Result A ℕ) (f g : A → Result B ℕ) → ((x : A) → f x ≡ g x) → (r >>= f) ≡ (r >>= g)
 along (Ok x) f g same = same x

@@ -18,6 +18,10 @@ use Rattle.dbus_wire.specs.Texts.{is_text, is_path}
 use Rattle.dbus_wire.specs.Values.{whole_items}
 use Rattle.std.specs.Prelude.{◌&&◌}
 
+-- what was read is thrown away
+abbrev pub forget : {A : Type 0} → Read A → Read (Unit {0})
+forget read = read >>= λ x. Ok (tt, x.1, x.2)
+
 -- where something ends, if it stands there
 abbrev pub Ending : Type 0
 Ending = Reader (Unit {0})

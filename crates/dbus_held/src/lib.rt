@@ -3,4 +3,7 @@
 
 mod ends;
 mod fields;
+mod laws;
 mod strings;
+
+pub use laws::{eights_apart_is_the_same, values_end_where_they_are_read};
