@@ -1,3 +1,4 @@
 pub mod EndSteps
 pub mod EndLaws
 pub mod Eights
+pub mod HeldLaws

@@ -1,3 +1,4 @@
 pub mod Ends
 pub mod Strings
 pub mod Elements
+pub mod Holding

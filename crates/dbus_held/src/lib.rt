@@ -3,7 +3,9 @@
 
 mod ends;
 mod fields;
+mod held;
 mod laws;
 mod strings;
 
+pub use held::{Held, read_held};
 pub use laws::{eights_apart_is_the_same, values_end_where_they_are_read};
