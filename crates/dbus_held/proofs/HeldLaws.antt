@@ -2,7 +2,7 @@
 use Rattle.std.proofs.Common.{◌≡◌, ℕ, ◌+◌, ◌-◌, ◌%◌, ◌<◌, ◌≤◌, List, [], ◌∷◌, ◌++◌, length, take, drop, All, Result, Ok, Err, refl, sym, ap, subst, ◌∙◌, arith}
 use Rattle.std.specs.Prelude.{replicate}
 use Rattle.std.specs.List.{AllByRecursion}
-use Rattle.std.proofs.lemmas.List.{append-nil, drop_at, nil_from_length, length-append, length-drop, length-replicate, take-replicate, take_at}
+use Rattle.std.proofs.lemmas.List.{append-nil, drop-drop, drop_at, nil_from_length, length-append, length-drop, length-replicate, take-replicate, take_at}
 use Rattle.std.proofs.lemmas.List.Elements.{recursion_from_All}
 use Rattle.dbus_signature.specs.declared.kind.Kind.{Kind}
 use Rattle.dbus_signature.specs.declared.error.WireError.{WireError}
@@ -16,6 +16,9 @@ use Rattle.dbus_wire.specs.Fits.{Fits, Members}
 use Rattle.dbus_wire.specs.Spelling.{spelling, spellings}
 use Rattle.dbus_wire.specs.Values.{max_open, members_at, value_at, values_of}
 use Rattle.dbus_wire.proofs.RowLaws.{kinds_are}
+use Rattle.dbus_signature.proofs.Whole.{kinds_take}
+use Rattle.dbus_wire.specs.TypeCodes.{types_codes}
+use Rattle.dbus_wire.proofs.TypeLaws.{row_typed}
 use Rattle.dbus_wire.proofs.Took.{IsBytes, bytes_drop, bytes_rest}
 use Rattle.dbus_wire.proofs.ValueAgain.{all_read, members_again}
 use Rattle.dbus_wire.proofs.ValueTook.{value_took}
@@ -150,6 +153,22 @@ is_held e codes kinds offset shift bytes text held signature types fits shifts i
       λ ls types_too. subst (λ (k : List Kind). values_of e k offset bytes ≡ Ok (held_values e codes shift held, offset + length text)) (ok_is kinds ls (sym types ∙ types_too)) found,
     )
 
+row_spelt : (e : Endian) (kinds : List Kind) (offset : ℕ) (bytes : List ℕ) (values : List Value) (end : ℕ) → AllByRecursion IsKind kinds → IsBytes bytes → values_of e kinds offset bytes ≡ Ok (values, end) → drop offset bytes ≡ spellings e values offset ++ drop end bytes
+row_spelt e kinds offset bytes values end are fits is =
+    let f = bind_ok (members_at (value_at e max_open) kinds offset (drop offset bytes)) (λ found. Ok (found.0, found.1)) (values, end) is in
+    let found : (f.0.0, f.0.1) ≡ (values, end) = ok_is (f.0.0, f.0.1) (values, end) f.2 in
+    let t = row_took e kinds are offset (drop offset bytes) f.0 (bytes_drop offset bytes fits) f.1 in
+    let text = spellings e f.0.0 offset in
+    let behind : drop f.0.1 bytes ≡ f.0.2 = ap (λ (n : ℕ). drop n bytes) t.taken.moved ∙ sym (drop-drop (length text) offset bytes) ∙ ap (drop (length text)) t.taken.parts ∙ drop_at text f.0.2 (length text) refl in
+    subst (λ (y : List Value × ℕ). drop offset bytes ≡ spellings e y.0 offset ++ drop y.1 bytes) found (t.taken.parts ∙ ap (λ (l : List ℕ). text ++ l) (sym behind))
+
+-- what is held is spelt where it was read
+pub held_there : (e : Endian) (codes : List ℕ) (kinds : List Kind) (offset shift : ℕ) (bytes text held : List ℕ) → IsSignature codes → all_kinds codes ≡ Ok kinds → IsBytes bytes → shift ≡ offset % 8
+    → text_of e kinds offset bytes ≡ Ok text → held ≡ replicate shift 0 ++ text → drop offset bytes ≡ spellings e (held_values e codes shift held) offset ++ drop (offset + length text) bytes
+held_there e codes kinds offset shift bytes text held signature types fits shifts is made =
+    row_spelt e kinds offset bytes (held_values e codes shift held) (offset + length text) (recursion_from_All IsKind kinds (kinds_are codes kinds types signature)) fits
+    ((is_held e codes kinds offset shift bytes text held signature types fits shifts is made).1 kinds types)
+
 -- ---- what is held is read
 
 held_found : (e : Endian) (codes : List ℕ) (at : ℕ) (bytes : List ℕ) → IsHeld e codes at bytes → (kinds : List Kind) × (all_kinds codes ≡ Ok kinds) × (values_of e kinds at bytes ≡ Ok (held_values e codes at bytes, length bytes))
@@ -179,6 +198,16 @@ spelt_held e codes at to bytes held fits apart =
     let none : length r.0.2 ≡ 0 = omega (arith, t.taken.moved, ap (λ (y : List Value × ℕ). y.1) found, parts, len, length-drop at bytes, held.within) in
     let stay = members_stay e (Fits e max_open) (λ k. (all_stay e max_open).values k) f.0 r.0.0 at to apart t.fit in
     t.taken.parts ∙ ap (λ (l : List ℕ). spellings e r.0.0 at ++ l) (nil_from_length r.0.2 none) ∙ append-nil (spellings e r.0.0 at) ∙ stay.1 ∙ ap (λ (vs : List Value). spellings e vs to) (ap (λ (y : List Value × ℕ). y.0) found)
+
+-- the types of what is held are those of its signature
+pub typed_held : (e : Endian) (codes : List ℕ) (at : ℕ) (bytes : List ℕ) → IsHeld e codes at bytes → IsBytes bytes → types_codes (held_values e codes at bytes) ≡ codes
+typed_held e codes at bytes held fits =
+    let values = held_values e codes at bytes in
+    let f = held_found e codes at bytes held in
+    let r = bind_ok (members_at (value_at e max_open) f.0 at (drop at bytes)) (λ found. Ok (found.0, found.1)) (values, length bytes) f.2 in
+    let found : (r.0.0, r.0.1) ≡ (values, length bytes) = ok_is (r.0.0, r.0.1) (values, length bytes) r.2 in
+    let t = row_took e f.0 (recursion_from_All IsKind f.0 (kinds_are codes f.0 f.1 held.signature)) at (drop at bytes) r.0 (bytes_drop at bytes fits) r.1 in
+    ap types_codes (sym (ap (λ (y : List Value × ℕ). y.0) found)) ∙ row_typed e max_open f.0 r.0.0 at t.fit ∙ sym (kinds_take (length codes) 0 codes f.0 f.1).0
 
 -- some of eight zeros
 pub zeros_taken : (n : ℕ) (zeros : List ℕ) → n < 8 → zeros ≡ replicate 8 0 → take n zeros ≡ replicate n 0

@@ -6,6 +6,7 @@ ghost use Rattle.dbus_signature.specs.Signatures.{all_kinds, IsKind};
 ghost use Rattle.dbus_signature.specs.declared.kind.Kind.{Kind as OneType};
 ghost use Rattle.dbus_wire.specs.Appending.{Keeps};
 ghost use Rattle.dbus_wire.specs.Spelling.{spellings};
+ghost use Rattle.dbus_wire.specs.TypeCodes.{types_codes};
 ghost use Rattle.dbus_wire.specs.Values.{values_of};
 ghost use Rattle.dbus_held.specs.Holding.{held_values, text_of, IsHeld};
 
@@ -27,6 +28,7 @@ const WIDEST: usize = 8;
 /// their spelling, whatever their types, in one block. Contracts see the values.
 #[derive(Drop)]
 pub struct Held {
+    alloc: Global,
     signature: Signature,
     endian: Endian,
     /// Where the spelling begins in the bytes: at the offset at which it stood, less a multiple of 8.
@@ -98,7 +100,9 @@ pub fn read_held(
     endian: Endian,
 ) -> Result<(Held, usize), WireError>
     requires { offset ≤ length bytes.now }
-    ensures { (kinds : List OneType) → all_kinds signature.now ≡ Ok kinds → Gives (λ found. found) result (values_of endian kinds offset bytes.now) }
+    ensures exact { (kinds : List OneType) → all_kinds signature.now ≡ Ok kinds → Gives (λ found. found) result (values_of endian kinds offset bytes.now) }
+    // What is held is spelt there.
+    ensures spelt { IfOk result (λ found. drop offset bytes.now ≡ spellings endian found.0 offset ++ drop found.1 bytes.now) }
 {
     let codes = Cursor {
         at: 0,
@@ -108,6 +112,7 @@ pub fn read_held(
     let spelt = spelt_at(alloc, kinds.as_slice(), bytes, offset, endian)?;
     let shift = offset % WIDEST;
     let held = Held {
+        alloc,
         signature: Signature::of_text(alloc, signature.as_bytes())?,
         endian,
         shift,
@@ -155,13 +160,38 @@ fn push_spelt(
     Ok(())
 }
 
+/// The codes of the types of the values that bytes spell.
+fn codes_held<'a>(
+    endian: Endian,
+    signature: &'a Signature,
+    shift: usize,
+    bytes: &[u8],
+) -> &'a [u8]
+    requires { IsHeld endian signature.now shift bytes.now }
+    ensures { types_codes (held_values endian signature.now shift bytes.now) ≡ result.now }
+{
+    signature.as_bytes()
+}
+
 impl Held {
     /// The values, each in its own form.
-    pub fn values(&self, alloc: Global) -> Result<Items<Value>, Memory>
+    pub fn values(&self) -> Result<Items<Value>, Memory>
         ensures { IfOk result (λ values. values ≡ self.now) }
     {
         values_held(
-            alloc,
+            self.alloc,
+            self.endian,
+            &self.signature,
+            self.shift,
+            self.bytes.as_slice(),
+        )
+    }
+
+    /// The codes of their types.
+    pub fn codes(&self) -> &[u8]
+        ensures { types_codes self.now ≡ result.now }
+    {
+        codes_held(
             self.endian,
             &self.signature,
             self.shift,
@@ -174,13 +204,7 @@ impl Held {
     ///
     /// In the order of bytes in which they were read, and where the offset is eights apart from the one at which they
     /// stood, the bytes are copied.
-    pub fn push(
-        &self,
-        alloc: Global,
-        out: &mut Vec<u8>,
-        origin: usize,
-        endian: Endian,
-    ) -> Result<(), Memory>
+    pub fn push(&self, out: &mut Vec<u8>, origin: usize, endian: Endian) -> Result<(), Memory>
         requires origin { origin ≤ length out.old.items }
         requires short { length (spellings endian self.now (length out.old.items - origin)) < 2 ^ 32 }
         ensures ok { OnOk result (out.new.items ≡ out.old.items ++ spellings endian self.now (length out.old.items - origin)) }
@@ -190,19 +214,19 @@ impl Held {
         if self.endian == endian && self.shift % WIDEST == (out.len() - origin) % WIDEST {
             return push_spelt(out, origin, endian, &self.signature, self.shift, bytes);
         }
-        let values = values_held(alloc, self.endian, &self.signature, self.shift, bytes)?;
+        let values = values_held(self.alloc, self.endian, &self.signature, self.shift, bytes)?;
         push_values(out, origin, endian, values.as_slice())
     }
 
     /// Appends the spellings of the values at the offset where the bytes end, in one pass and in place. For want of memory
     /// the bytes are as before.
-    pub fn write(&self, alloc: Global, endian: Endian, out: &mut Vec<u8>) -> Result<(), Memory>
+    pub fn write(&self, endian: Endian, out: &mut Vec<u8>) -> Result<(), Memory>
         requires { length (spellings endian self.now (length out.old.items)) < 2 ^ 32 }
         ensures ok { OnOk result (out.new.items ≡ out.old.items ++ spellings endian self.now (length out.old.items)) }
         ensures err { OnErr result (out.new.items ≡ out.old.items) }
     {
         let end = out.as_slice().len();
-        let written = self.push(alloc, out, 0, endian);
+        let written = self.push(out, 0, endian);
         if written.is_err() {
             out.truncate(end);
         }
