@@ -1,5 +1,5 @@
 -- Values that are held are those that were read.
-use Rattle.std.proofs.Common.{◌≡◌, ℕ, ◌+◌, ◌-◌, ◌%◌, ◌<◌, ◌≤◌, List, [], ◌∷◌, ◌++◌, length, take, drop, All, Result, Ok, Err, refl, sym, ap, subst, ◌∙◌, arith}
+use Rattle.std.proofs.Common.{◌↔◌, ◌≡◌, ℕ, ◌+◌, ◌-◌, ◌%◌, ◌<◌, ◌≤◌, List, [], ◌∷◌, ◌++◌, length, take, drop, All, Result, Ok, Err, refl, sym, ap, subst, ◌∙◌, arith}
 use Rattle.std.specs.Prelude.{replicate}
 use Rattle.std.specs.List.{AllByRecursion}
 use Rattle.std.proofs.lemmas.List.{append-nil, drop-drop, drop_at, nil_from_length, length-append, length-drop, length-replicate, take-replicate, take_at}
@@ -16,6 +16,8 @@ use Rattle.dbus_wire.specs.Fits.{Fits, Members}
 use Rattle.dbus_wire.specs.Spelling.{spelling, spellings}
 use Rattle.dbus_wire.specs.Values.{max_open, members_at, value_at, values_of}
 use Rattle.dbus_wire.proofs.RowLaws.{kinds_are}
+use Rattle.dbus_signature.specs.Types.{all_codes, codes as codes_of}
+use Rattle.dbus_signature.proofs.KindLaws.{by_kind, codes_array, codes_dict, codes_plain, codes_struct, codes_variant}
 use Rattle.dbus_signature.proofs.Whole.{kinds_take}
 use Rattle.dbus_wire.specs.TypeCodes.{types_codes}
 use Rattle.dbus_wire.proofs.TypeLaws.{row_typed}
@@ -208,6 +210,31 @@ typed_held e codes at bytes held fits =
     let found : (r.0.0, r.0.1) ≡ (values, length bytes) = ok_is (r.0.0, r.0.1) (values, length bytes) r.2 in
     let t = row_took e f.0 (recursion_from_All IsKind f.0 (kinds_are codes f.0 f.1 held.signature)) at (drop at bytes) r.0 (bytes_drop at bytes fits) r.1 in
     ap types_codes (sym (ap (λ (y : List Value × ℕ). y.0) found)) ∙ row_typed e max_open f.0 r.0.0 at t.fit ∙ sym (kinds_take (length codes) 0 codes f.0 f.1).0
+
+codes_some : (k : Kind) → 0 < length (codes_of k)
+codes_some = by_kind (λ k. 0 < length (codes_of k))
+    (λ b. rw (codes_plain b) (omega arith))
+    (rw codes_variant (omega arith))
+    (λ el. rw (codes_array el) (omega arith))
+    (λ b el. rw (codes_dict b el) (omega arith))
+    (λ ks. rw (codes_struct ks) (omega arith))
+
+-- there are values where there are types
+none_of : (e : Endian) (ks : List Kind) (vs : List Value) (at : ℕ) → Members e (Fits e max_open) ks vs at → (length (all_codes ks) ≡ 0) ↔ (vs ≡ [])
+none_of e [] [] at fit = (λ is. refl, λ is. refl)
+none_of e [] (v ∷ vs) at fit = absurd fit
+none_of e (k ∷ ks) [] at fit = absurd fit
+none_of e (k ∷ ks) (v ∷ vs) at fit = (λ is. absurd (omega (arith, is, codes_some k, length-append (codes_of k) (all_codes ks))), λ is. absurd cc)
+
+pub none_held : (e : Endian) (codes : List ℕ) (at : ℕ) (bytes : List ℕ) → IsHeld e codes at bytes → IsBytes bytes → (length codes ≡ 0) ↔ (held_values e codes at bytes ≡ [])
+none_held e codes at bytes held fits =
+    let values = held_values e codes at bytes in
+    let f = held_found e codes at bytes held in
+    let r = bind_ok (members_at (value_at e max_open) f.0 at (drop at bytes)) (λ found. Ok (found.0, found.1)) (values, length bytes) f.2 in
+    let found : (r.0.0, r.0.1) ≡ (values, length bytes) = ok_is (r.0.0, r.0.1) (values, length bytes) r.2 in
+    let t = row_took e f.0 (recursion_from_All IsKind f.0 (kinds_are codes f.0 f.1 held.signature)) at (drop at bytes) r.0 (bytes_drop at bytes fits) r.1 in
+    subst (λ (vs : List Value). (length codes ≡ 0) ↔ (vs ≡ [])) (ap (λ (y : List Value × ℕ). y.0) found)
+    (subst (λ (text : List ℕ). (length text ≡ 0) ↔ (r.0.0 ≡ [])) (sym (kinds_take (length codes) 0 codes f.0 f.1).0) (none_of e f.0 r.0.0 at t.fit))
 
 -- some of eight zeros
 pub zeros_taken : (n : ℕ) (zeros : List ℕ) → n < 8 → zeros ≡ replicate 8 0 → take n zeros ≡ replicate n 0

@@ -92,7 +92,7 @@ fn element_align(element: Element<'_>) -> usize
 
 /// How many bytes an array has, and the cursor at its first element, behind padding that these bytes leave out.
 #[tactic(auto, unfolding(dbus_wire::specs::Arrays::head_at))]
-fn head_at(
+pub fn head_at(
     endian: Endian,
     align: usize,
     from: Cursor<'_>,

@@ -1,6 +1,6 @@
 //! Values held as the bytes that spell them.
 
-ghost use Rattle.std.specs.Prelude.{◌≡◌, ◌≤◌, ◌<◌, ◌+◌, ◌-◌, ◌%◌, ◌^◌, ◌++◌, ℕ, List, length, drop, replicate, All, IfOk, OnOk, OnErr, Ok};
+ghost use Rattle.std.specs.Prelude.{◌≡◌, ◌≤◌, ◌<◌, ◌+◌, ◌-◌, ◌%◌, ◌^◌, ◌++◌, ◌↔◌, [], IsTrue, ℕ, List, length, drop, replicate, All, IfOk, OnOk, OnErr, Ok};
 ghost use Rattle.dbus_signature.specs.Reading.{Gives};
 ghost use Rattle.dbus_signature.specs.Signatures.{all_kinds, IsKind};
 ghost use Rattle.dbus_signature.specs.declared.kind.Kind.{Kind as OneType};
@@ -173,6 +173,14 @@ fn codes_held<'a>(
     signature.as_bytes()
 }
 
+/// Whether bytes spell no value.
+fn holds_none(endian: Endian, signature: &Signature, shift: usize, bytes: &[u8]) -> bool
+    requires { IsHeld endian signature.now shift bytes.now }
+    ensures { IsTrue result ↔ (held_values endian signature.now shift bytes.now ≡ []) }
+{
+    signature.as_bytes().is_empty()
+}
+
 impl Held {
     /// The values, each in its own form.
     pub fn values(&self) -> Result<Items<Value>, Memory>
@@ -192,6 +200,18 @@ impl Held {
         ensures { types_codes self.now ≡ result.now }
     {
         codes_held(
+            self.endian,
+            &self.signature,
+            self.shift,
+            self.bytes.as_slice(),
+        )
+    }
+
+    /// Whether there is none.
+    pub fn is_empty(&self) -> bool
+        ensures { IsTrue result ↔ (self.now ≡ []) }
+    {
+        holds_none(
             self.endian,
             &self.signature,
             self.shift,

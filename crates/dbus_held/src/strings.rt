@@ -1,10 +1,10 @@
 //! Where texts, paths and signatures end.
 
-ghost use Rattle.std.specs.Prelude.{◌≡◌, ◌≤◌, ◌+◌, length, take, drop, true, IfOk};
+ghost use Rattle.std.specs.Prelude.{◌≡◌, ◌≤◌, ◌+◌, length, take, drop, true, false, IfOk, IfSome, IfNone};
 ghost use Rattle.dbus_signature.specs.Cursors.{read_at, seen};
 ghost use Rattle.dbus_signature.specs.Reading.{Gives};
-ghost use Rattle.dbus_signature.specs.Signatures.{IsKind};
-ghost use Rattle.dbus_wire.specs.Fields.{byte_at, codes_at};
+ghost use Rattle.dbus_signature.specs.Signatures.{IsKind, IsSignature};
+ghost use Rattle.dbus_wire.specs.Fields.{byte_at, codes_at, ended_at, signature_at, text_at};
 ghost use Rattle.dbus_wire.specs.Seen.{seen_codes};
 ghost use Rattle.dbus_wire.specs.Texts.{is_text, is_path, is_path_letter, path_goes_on};
 ghost use Rattle.dbus_held.specs.Ends.{ended_end, signature_end, text_end, type_end};
@@ -61,23 +61,27 @@ fn is_path(bytes: &[u8]) -> bool
     }
 }
 
-/// Whether bytes are UTF-8 without a NUL.
-fn is_text(bytes: &[u8]) -> bool
-    ensures { result ≡ is_text bytes.now }
+/// The bytes as a text, where they are UTF-8 without a NUL.
+fn as_text(bytes: &[u8]) -> Option<&str>
+    ensures text { IfSome result (λ text. (text.now ≡ bytes.now) × (is_text bytes.now ≡ true)) }
+    ensures none { IfNone result (is_text bytes.now ≡ false) }
 {
-    let Ok(_) = str::from_utf8(bytes) else {
-        return false;
+    let Ok(text) = str::from_utf8(bytes) else {
+        return None;
     };
-    !bytes.contains(&0)
+    if bytes.contains(&0) { None } else { Some(text) }
 }
 
-/// Whether a string may hold the bytes.
-fn is_string(holds: Holds, bytes: &[u8]) -> bool
-    ensures { result ≡ is_string holds bytes.now }
+/// The bytes as a text, where a string may hold them.
+fn valid(holds: Holds, bytes: &[u8]) -> Option<&str>
+    ensures text { IfSome result (λ text. (text.now ≡ bytes.now) × (is_string holds bytes.now ≡ true)) }
+    ensures none { IfNone result (is_string holds bytes.now ≡ false) }
 {
+    let text = as_text(bytes)?;
     match holds {
-        Holds::Text => is_text(bytes),
-        Holds::Path => is_text(bytes) && is_path(bytes),
+        Holds::Text => Some(text),
+        Holds::Path if is_path(bytes) => Some(text),
+        Holds::Path => None,
     }
 }
 
@@ -94,7 +98,7 @@ fn ended_end(
         return Err(WireError::Bad(from.at));
     }
     let (front, rest) = from.rest.split_at(count);
-    if !is_string(holds, front) {
+    if valid(holds, front).is_none() {
         return Err(WireError::Bad(from.at));
     }
     let end = Cursor {
@@ -102,6 +106,43 @@ fn ended_end(
         rest,
     };
     zeros_at(1, end)
+}
+
+/// A string of so many bytes, lent, and the cursor behind its closing NUL.
+#[tactic(auto, unfolding(dbus_wire::specs::Fields::ended_at))]
+fn ended_at<'a>(
+    holds: Holds,
+    count: usize,
+    from: Cursor<'a>,
+) -> Result<(&'a str, Cursor<'a>), WireError>
+    ensures { Gives (λ found. (found.0.now, found.1.at, found.1.rest.now)) result (read_at (ended_at (is_string holds) count) from.entry) }
+{
+    if from.rest.len() < count {
+        return Err(WireError::Bad(from.at));
+    }
+    let (front, rest) = from.rest.split_at(count);
+    let Some(text) = valid(holds, front) else {
+        return Err(WireError::Bad(from.at));
+    };
+    let end = Cursor {
+        at: from.at + count,
+        rest,
+    };
+    let ((), after) = zeros_at(1, end)?;
+    Ok((text, after))
+}
+
+/// A string, lent.
+#[tactic(auto, unfolding(dbus_wire::specs::Fields::text_at))]
+pub fn string_at<'a>(
+    endian: Endian,
+    holds: Holds,
+    from: Cursor<'a>,
+) -> Result<(&'a str, Cursor<'a>), WireError>
+    ensures { Gives (λ found. (found.0.now, found.1.at, found.1.rest.now)) result (read_at (text_at (is_string holds) endian) from.entry) }
+{
+    let (count, start) = u32_at(endian, from)?;
+    ended_at(holds, count as usize, start)
 }
 
 /// The end of a string.
@@ -131,7 +172,7 @@ pub fn front_of(bytes: &[u8], count: usize) -> (&[u8], &[u8])
 
 /// A byte.
 #[tactic(auto, unfolding(dbus_wire::specs::Fields::byte_at))]
-fn byte_at(from: Cursor<'_>) -> Result<(u8, Cursor<'_>), WireError>
+pub fn byte_at(from: Cursor<'_>) -> Result<(u8, Cursor<'_>), WireError>
     ensures { Gives seen result (read_at byte_at from.entry) }
 {
     from.next().ok_or(WireError::Bad(from.at))
@@ -154,6 +195,21 @@ fn codes_at(from: Cursor<'_>) -> Result<(Cursor<'_>, Cursor<'_>), WireError>
         rest,
     };
     Ok((codes, end))
+}
+
+/// A signature, lent.
+#[tactic(auto, unfolding(dbus_wire::specs::Fields::signature_at))]
+pub fn signature_at<'a>(
+    alloc: Global,
+    from: Cursor<'a>,
+) -> Result<(&'a [u8], Cursor<'a>), WireError>
+    ensures exact { Gives (λ found. (found.0.now, found.1.at, found.1.rest.now)) result (read_at signature_at from.entry) }
+    ensures valid { IfOk result (λ found. IsSignature found.0.now) }
+{
+    let (codes, end) = codes_at(from)?;
+    kinds_at(alloc, codes)?;
+    let ((), after) = zeros_at(1, end)?;
+    Ok((codes.rest, after))
 }
 
 /// The end of a signature.
