@@ -63,7 +63,7 @@ forgot_err : {A : Type 0} (r : Read A) (place : ℕ) → forget r ≡ Err place 
 forgot_err (Ok y) place is = absurd cc
 forgot_err (Err other) place is = cc
 
-all_end : (e : Endian) (kinds : List Kind) (at : ℕ) (text : List ℕ) → members_end (value_end e max_open) kinds at text ≡ forget (members_at (value_at e max_open) kinds at text)
+pub all_end : (e : Endian) (kinds : List Kind) (at : ℕ) (text : List ℕ) → members_end (value_end e max_open) kinds at text ≡ forget (members_at (value_at e max_open) kinds at text)
 all_end e kinds at text = members_ends (value_end e max_open) (value_at e max_open) (λ k. (ends_are e max_open).values k) kinds at text
 
 ended : (e : Endian) (kinds : List Kind) (at : ℕ) (text : List ℕ) (x : Unit {0} × ℕ × List ℕ) → members_end (value_end e max_open) kinds at text ≡ Ok x → (vs : List Value) × (members_at (value_at e max_open) kinds at text ≡ Ok (vs, x.1, x.2))
@@ -173,7 +173,7 @@ held_there e codes kinds offset shift bytes text held signature types fits shift
 
 -- ---- what is held is read
 
-held_found : (e : Endian) (codes : List ℕ) (at : ℕ) (bytes : List ℕ) → IsHeld e codes at bytes → (kinds : List Kind) × (all_kinds codes ≡ Ok kinds) × (values_of e kinds at bytes ≡ Ok (held_values e codes at bytes, length bytes))
+pub held_found : (e : Endian) (codes : List ℕ) (at : ℕ) (bytes : List ℕ) → IsHeld e codes at bytes → (kinds : List Kind) × (all_kinds codes ≡ Ok kinds) × (values_of e kinds at bytes ≡ Ok (held_values e codes at bytes, length bytes))
 held_found e codes at bytes held = bind_ok (all_kinds codes) (λ kinds. values_of e kinds at bytes) (held_values e codes at bytes, length bytes) held.read
 
 pub values_are : (e : Endian) (codes : List ℕ) (at : ℕ) (bytes : List ℕ) (found : List Value × ℕ) → IsHeld e codes at bytes → ((kinds : List Kind) → all_kinds codes ≡ Ok kinds → values_of e kinds at bytes ≡ Ok found) → found.0 ≡ held_values e codes at bytes

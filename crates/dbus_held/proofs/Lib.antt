@@ -2,3 +2,4 @@ pub mod EndSteps
 pub mod EndLaws
 pub mod Eights
 pub mod HeldLaws
+pub mod LentLaws

@@ -1,6 +1,6 @@
 //! Values held as the bytes that spell them.
 
-ghost use Rattle.std.specs.Prelude.{◌≡◌, ◌≤◌, ◌<◌, ◌+◌, ◌-◌, ◌%◌, ◌^◌, ◌++◌, ◌↔◌, [], IsTrue, ℕ, List, length, drop, replicate, All, IfOk, OnOk, OnErr, Ok};
+ghost use Rattle.std.specs.Prelude.{◌≡◌, ◌≤◌, ◌<◌, ◌+◌, ◌-◌, ◌%◌, ◌^◌, ◌++◌, ◌↔◌, [], IsTrue, ℕ, List, length, drop, replicate, slice_get, All, IfOk, OnOk, OnErr, Ok};
 ghost use Rattle.dbus_signature.specs.Reading.{Gives};
 ghost use Rattle.dbus_signature.specs.Signatures.{all_kinds, IsKind};
 ghost use Rattle.dbus_signature.specs.declared.kind.Kind.{Kind as OneType};
@@ -9,8 +9,10 @@ ghost use Rattle.dbus_wire.specs.Spelling.{spellings};
 ghost use Rattle.dbus_wire.specs.TypeCodes.{types_codes};
 ghost use Rattle.dbus_wire.specs.Values.{values_of};
 ghost use Rattle.dbus_held.specs.Holding.{held_values, text_of, IsHeld};
+ghost use Rattle.dbus_held.specs.Lending.{shown};
 
 use crate::ends::{Context, members_end};
+use crate::lent::{Lent, lent_held};
 use dbus_signature::{Cursor, Kind, Signature, WireError, kinds_at};
 use dbus_wire::{Endian, Value, push_values, read_values};
 use fw_base::Memory;
@@ -193,6 +195,19 @@ impl Held {
             self.shift,
             self.bytes.as_slice(),
         )
+    }
+
+    /// The value at a place, if there are so many: a text, an object path and an array of bytes lent, any other in its own
+    /// form.
+    pub fn lent(&self, place: usize) -> Result<Option<Lent<'_>>, Memory>
+        ensures { IfOk result (λ found. shown found ≡ slice_get self.now place) }
+    {
+        let bytes = self.bytes.as_slice();
+        match lent_held(self.alloc, self.endian, &self.signature, self.shift, bytes, place) {
+            Ok(found) => Ok(found),
+            Err(WireError::Memory) => Err(Memory),
+            Err(WireError::Bad(_)) => unreachable!(),
+        }
     }
 
     /// The codes of their types.
