@@ -1,13 +1,14 @@
 //! Bodies of messages.
 
-ghost use Rattle.std.specs.Prelude.{◌≡◌, ◌<◌, ◌≤◌, ◌-◌, ◌^◌, ◌++◌, ◌↔◌, [], IsTrue, length, IfOk, OnOk, OnErr};
+ghost use Rattle.std.specs.Prelude.{◌≡◌, ◌<◌, ◌≤◌, ◌-◌, ◌^◌, ◌++◌, ◌↔◌, [], IsTrue, length, slice_get, IfOk, OnOk, OnErr};
 ghost use Rattle.dbus_wire.specs.Appending.{Keeps};
 ghost use Rattle.dbus_wire.specs.Spelling.{spellings};
 ghost use Rattle.dbus_wire.specs.TypeCodes.{types_codes};
+ghost use Rattle.dbus_held.specs.Lending.{lent_value, shown};
 ghost use Rattle.dbus_msg.specs.Bodies.{values_in};
 
-use dbus_held::Held;
-use dbus_wire::{Endian, Value, push_types, push_values};
+use dbus_held::{Held, Lent};
+use dbus_wire::{Endian, Packed, Value, push_types, push_values};
 use fw_base::{Memory, TryCopy};
 use sqlite_items::Items;
 use std::alloc::Global;
@@ -48,6 +49,38 @@ fn values_of(alloc: Global, form: &Form) -> Result<Items<Value>, Memory>
     match form {
         Form::Held(held) => held.values(),
         Form::Values(values) => Ok(Items::from_vec(Value::copy_all(alloc, values.as_slice())?)),
+    }
+}
+
+/// A value that is at hand: a text, an object path and an array of bytes lent, any other copied.
+fn lent_of(alloc: Global, value: &Value) -> Result<Lent<'_>, Memory>
+    ensures { IfOk result (λ lent. lent_value lent ≡ value.now) }
+{
+    match value {
+        Value::Str(text) => Ok(Lent::Text(text.as_str())),
+        Value::Path(path) => Ok(Lent::Path(path.as_str())),
+        Value::Packed(Packed::Bytes(bytes)) => Ok(Lent::Bytes(bytes.as_slice())),
+        _ => Ok(Lent::Own(value.copy(alloc)?)),
+    }
+}
+
+/// The value at a place of those at hand.
+fn lent_at(alloc: Global, values: &[Value], place: usize) -> Result<Option<Lent<'_>>, Memory>
+    ensures { IfOk result (λ found. shown found ≡ slice_get values.now place) }
+{
+    match values.get(place) {
+        Some(value) => Ok(Some(lent_of(alloc, value)?)),
+        None => Ok(None),
+    }
+}
+
+/// The value at a place.
+fn lent_in(alloc: Global, form: &Form, place: usize) -> Result<Option<Lent<'_>>, Memory>
+    ensures { IfOk result (λ found. shown found ≡ slice_get (values_in form.now) place) }
+{
+    match form {
+        Form::Held(held) => held.lent(place),
+        Form::Values(values) => lent_at(alloc, values.as_slice(), place),
     }
 }
 
@@ -114,6 +147,14 @@ impl Body {
         ensures { IfOk result (λ values. values ≡ self.now) }
     {
         values_of(alloc, &self.form)
+    }
+
+    /// The value at a place, if there are so many: a text, an object path and an array of bytes lent, any other in its own
+    /// form.
+    pub fn lent(&self, alloc: Global, place: usize) -> Result<Option<Lent<'_>>, Memory>
+        ensures { IfOk result (λ found. shown found ≡ slice_get self.now place) }
+    {
+        lent_in(alloc, &self.form, place)
     }
 
     /// Whether there is none.
