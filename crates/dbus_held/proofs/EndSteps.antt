@@ -8,7 +8,13 @@ use Rattle.dbus_signature.specs.declared.error.WireError.{WireError}
 use Rattle.dbus_signature.specs.declared.error.WireError.TheVariants as errors
 use Rattle.dbus_signature.specs.Reading.{Read, Fails}
 use Rattle.dbus_wire.specs.declared.value.Endian.{Endian}
-use Rattle.dbus_held.specs.Ends.{Ending, value_end, entry_end, open_value_end, closed_value_end, pair_end, items_end, members_end}
+use Rattle.dbus_signature.specs.declared.kind.Basic.TheVariants.{Byte}
+use Rattle.dbus_signature.specs.declared.kind.Kind.TheVariants.{Basic as Plain}
+use Rattle.dbus_wire.proofs.Some.{out_plain}
+use Rattle.dbus_held.specs.declared.ends.Element.{Element}
+use Rattle.dbus_held.specs.declared.ends.Element.TheVariants as element
+use Rattle.dbus_held.specs.Elements.{AreBytes, element_end}
+use Rattle.dbus_held.specs.Ends.{byte_end, Ending, value_end, entry_end, open_value_end, closed_value_end, pair_end, items_end, members_end}
 
 pub value_opens : (e : Endian) (room : ℕ) (kind : Kind) (at : ℕ) (text : List ℕ) → 0 < room → value_end e room kind at text ≡ open_value_end e (room - 1) kind at text
 unfolding value_end
@@ -93,3 +99,23 @@ members_done read kinds i at text all le same =
     let none : drop i kinds ≡ [] = nil_from_length (drop i kinds) (omega (arith, length-drop i kinds)) in
     let one : members_end read (drop i kinds) at text ≡ Ok (tt, at, text) = rw none refl in
     sym same ∙ one
+
+-- ---- bytes, each of which is an element
+
+plain_end : (e : Endian) (room : ℕ) (at : ℕ) (text : List ℕ) → value_end e room (Plain Byte) at text ≡ byte_end at text
+unfolding value_end
+plain_end e zero at text = rw (out_plain Byte) refl
+plain_end e (suc room) at text = rw (out_plain Byte) refl
+
+bytes_end : (n at : ℕ) (text : List ℕ) → length text ≤ n → items_end byte_end n at text ≡ Ok (tt, at + length text, [])
+unfolding items_end byte_end
+bytes_end zero at [] le = ap (λ (m : ℕ). Ok (tt, m, [])) (let h : at ≡ at + 0 = omega arith in h)
+bytes_end (suc n) at [] le = ap (λ (m : ℕ). Ok (tt, m, [])) (let h : at ≡ at + 0 = omega arith in h)
+bytes_end zero at (c ∷ text) le = absurd (omega arith)
+bytes_end (suc n) at (c ∷ text) le = bytes_end n (at + 1) text (omega arith) ∙ ap (λ (m : ℕ). Ok (tt, m, [])) (let h : at + 1 + length text ≡ at + suc (length text) = omega arith in h)
+
+pub elements_end : (e : Endian) (room : ℕ) (x : Element) (at : ℕ) (text : List ℕ) → AreBytes x → items_end (element_end e room x) (length text) at text ≡ Ok (tt, at + length text, [])
+elements_end e room (element.Whole kind) at text are =
+    let same : value_end e room kind.now ≡ byte_end = (λ i at text. (ap (λ (k : Kind). value_end e room k at text) are ∙ plain_end e room at text) i) in
+    ap (λ (item : Ending). items_end item (length text) at text) same ∙ bytes_end (length text) at text (omega arith)
+elements_end e room (element.Entry key kind) at text are = absurd are

@@ -1,5 +1,7 @@
 -- What arrays hold.
-use Rattle.std.specs.Prelude.{ℕ}
+use Rattle.std.specs.Prelude.{◌≡◌, ℕ}
+use Rattle.dbus_signature.specs.declared.kind.Basic.TheVariants.{Byte}
+use Rattle.dbus_signature.specs.declared.kind.Kind.TheVariants.{Basic as Plain}
 use Rattle.dbus_signature.specs.Signatures.{IsKind}
 use Rattle.dbus_wire.specs.declared.value.Endian.{Endian}
 use Rattle.dbus_wire.specs.Alignment.{alignment}
@@ -21,3 +23,8 @@ element_align (element.Entry key kind) = 8
 abbrev pub ElementIs : Element → Type 0
 ElementIs (element.Whole kind) = IsKind kind.now
 ElementIs (element.Entry key kind) = IsKind kind.now
+
+-- they are bytes
+abbrev pub AreBytes : Element → Type 0
+AreBytes (element.Whole kind) = kind.now ≡ Plain Byte
+AreBytes (element.Entry key kind) = ⊥

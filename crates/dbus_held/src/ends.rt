@@ -1,13 +1,14 @@
 //! Where values end, by their type.
 
-ghost use Rattle.std.specs.Prelude.{◌≡◌, ◌<◌, ◌-◌, ◌≤◌, length, All};
+ghost use Rattle.std.specs.Prelude.{◌≡◌, ◌<◌, ◌-◌, ◌≤◌, length, All, IsTrue};
+ghost use Rattle.dbus_signature.specs.declared.kind.Basic.TheVariants.{Byte};
 ghost use Rattle.dbus_signature.specs.Cursors.{read_at, seen};
 ghost use Rattle.dbus_signature.specs.Reading.{Gives};
 ghost use Rattle.dbus_signature.specs.Signatures.{IsKind};
 ghost use Rattle.dbus_signature.specs.declared.kind.Kind.TheVariants.{Basic as Plain};
 ghost use Rattle.dbus_wire.specs.Alignment.{alignment};
 ghost use Rattle.dbus_wire.specs.Arrays.{head_at};
-ghost use Rattle.dbus_held.specs.Elements.{element_end, element_align, ElementIs};
+ghost use Rattle.dbus_held.specs.Elements.{element_end, element_align, AreBytes, ElementIs};
 ghost use Rattle.dbus_held.specs.Ends.{array_end, basic_end, closed_value_end, contents_end, entry_end, items_end, members_end, open_value_end, pair_end, struct_end, value_end, variant_end};
 
 use crate::fields::{
@@ -87,6 +88,26 @@ fn element_align(element: Element<'_>) -> usize
     match element {
         Element::Whole(kind) => alignment(kind),
         Element::Entry(_, _) => 8,
+    }
+}
+
+/// Whether a type is that of bytes.
+pub fn is_byte(kind: &Kind) -> bool
+    ensures { IsTrue result → kind.now ≡ Plain Byte }
+{
+    match kind {
+        Kind::Basic(Basic::Byte) => true,
+        _ => false,
+    }
+}
+
+/// Whether elements are bytes.
+fn are_bytes(element: Element<'_>) -> bool
+    ensures { IsTrue result → AreBytes element.entry }
+{
+    match element {
+        Element::Whole(kind) => is_byte(kind),
+        Element::Entry(_, _) => false,
     }
 }
 
@@ -279,6 +300,13 @@ fn items_end<'a>(
     requires { ElementIs element }
     ensures { Gives seen result (read_at (items_end (element_end context.endian context.room element.entry) (length from.entry.rest.now)) from.entry) }
 {
+    if are_bytes(element) {
+        let end = Cursor {
+            at: from.at + from.rest.len(),
+            rest: &[],
+        };
+        return Ok(((), end));
+    }
     let mut next = from;
     for _ in 0..from.rest.len() {
         if next.rest.is_empty() {

@@ -11,7 +11,7 @@ ghost use Rattle.dbus_held.specs.Ends.{members_end as members_end_at, value_end}
 ghost use Rattle.dbus_held.specs.Holding.{held_values, IsHeld};
 ghost use Rattle.dbus_held.specs.Lending.{bytes_of, lent_value, offset_of, shown, value_alone};
 
-use crate::ends::{Context, head_at, members_end};
+use crate::ends::{Context, head_at, is_byte, members_end};
 use crate::strings::{Holds, front_of, string_at};
 use dbus_signature::{Basic, Cursor, Kind, Signature, WireError, kinds_at};
 use dbus_wire::{Endian, Value, read_value};
@@ -42,16 +42,6 @@ fn bytes_at<'a>(endian: Endian, from: Cursor<'a>) -> Result<&'a [u8], WireError>
         return Err(WireError::Bad(first.at + front.len()));
     }
     Ok(front)
-}
-
-/// Whether a type is that of bytes.
-fn is_byte(kind: &Kind) -> bool
-    ensures { IsTrue result → kind.now ≡ Plain Byte }
-{
-    match kind {
-        Kind::Basic(Basic::Byte) => true,
-        _ => false,
-    }
 }
 
 /// A value of a type at an offset, in its own form.

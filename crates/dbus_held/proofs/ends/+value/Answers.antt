@@ -4,7 +4,7 @@ use Rattle.std.proofs.lemmas.Result.{err_from_is_err_and}
 use Rattle.dbus_signature.proofs.Inner.{element_is, value_is, members_is}
 use Rattle.dbus_held.specs.Elements.{element_end}
 use Rattle.dbus_held.specs.Ends.{value_end}
-use Rattle.dbus_held.proofs.EndSteps.{entry_closed, items_go_on, items_fail, items_done, items_left, members_go_on, members_fail, members_done}
+use Rattle.dbus_held.proofs.EndSteps.{elements_end, entry_closed, items_go_on, items_fail, items_done, items_left, members_go_on, members_fail, members_done}
 use Rattle.dbus_wire.proofs.ValueLaws.{some_left, none_left}
 use Rattle.dbus_held.proofs.ends.+value.Goals as goal
 use Rattle.dbus_held.proofs.ends.+value.Goals.{items_end-else-loop-test, items_end-then-loop-test+then-is_empty}
@@ -16,6 +16,10 @@ pub items_end-returns-in_err-after : goal.items_end-returns-in_err-after
 items_end-returns-in_err-after t c =
     let p = err_from_is_err_and c.from_residual.result c.from_residual.ensures.1 in
     rw (p.1, p.2) (items_fail (element_end c.args.context.endian c.args.context.room c.args.element) c.in_err-after.field-0.0 _ c.loop.counter c.loop.next.at c.loop.next.rest.now _ c.loop-test.true (some_left c.loop.next.rest.now c.is_empty.result c.is_empty.ensures c.if-is_empty.false) c.in_err-after.ensures c.loop.invariant)
+
+pub items_end-returns-then-are_bytes : goal.items_end-returns-then-are_bytes
+items_end-returns-then-are_bytes t c =
+    elements_end c.args.context.endian c.args.context.room c.args.element c.args.from.at c.args.from.rest.now (c.are_bytes.ensures c.if-are_bytes.true)
 
 pub items_end-loop-preserved : goal.items_end-loop-preserved
 items_end-loop-preserved t c =
