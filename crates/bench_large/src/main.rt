@@ -6,8 +6,8 @@
 ghost use Rattle.std.specs.Prelude.{◌≤◌};
 
 use anyhow::{Result, anyhow};
+use dbus_held::Lent;
 use dbus_msg::{Decoder, FeedEnd, Message};
-use dbus_wire::{Packed, Value};
 use fw_base::Memory;
 use std::alloc::Global;
 use std::env;
@@ -40,16 +40,15 @@ fn head(alloc: Global, count: u32) -> Result<Vec<u8>, Memory>
 }
 
 /// How many bytes the array of a message has, or 0 where they are others.
-fn array_len(message: &Message) -> usize {
-    let [Value::Packed(Packed::Bytes(bytes))] = message.body.as_slice() else {
-        return 0;
+fn array_len(alloc: Global, message: &Message) -> Result<usize, Memory> {
+    let Some(Lent::Bytes(bytes)) = message.body.lent(alloc, 0)? else {
+        return Ok(0);
     };
-    let bytes = bytes.as_slice();
     let same = bytes
         .iter()
         .enumerate()
         .all(|(place, byte)| *byte == (place % 256) as u8);
-    if same { bytes.len() } else { 0 }
+    Ok(if same { bytes.len() } else { 0 })
 }
 
 /// How many bytes the array has that is received in so many pieces, or 0 where another message is.
@@ -79,7 +78,7 @@ fn received(alloc: Global, pieces: u32) -> Result<usize, Memory>
             return Ok(0);
         }
         for message in fed.messages.as_slice() {
-            len = array_len(message);
+            len = array_len(alloc, message)?;
         }
     }
     Ok(len)

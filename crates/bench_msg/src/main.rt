@@ -3,9 +3,9 @@
 #![tactic(auto)]
 
 use anyhow::{Result, anyhow};
+use dbus_held::Lent;
 use dbus_msg::{Decoder, FeedEnd, Message, write_message};
 use dbus_samples::answer;
-use dbus_wire::Value;
 use fw_base::{Memory, Text};
 use std::alloc::Global;
 use std::env;
@@ -32,10 +32,10 @@ fn is_text(field: &Option<Text>, text: &str) -> bool {
 }
 
 /// Whether the third value is the text `tcp`.
-fn is_tcp(message: &Message) -> bool {
-    match message.body.as_slice() {
-        [_, _, Value::Str(text)] => text.as_str() == "tcp",
-        _ => false,
+fn is_tcp(alloc: Global, message: &Message) -> Result<bool, Memory> {
+    match message.body.lent(alloc, 2)? {
+        Some(Lent::Text(text)) => Ok(text == "tcp"),
+        _ => Ok(false),
     }
 }
 
@@ -53,7 +53,7 @@ fn push_return(
     {
         return Ok(false);
     }
-    let message = answer(alloc, serial, call.serial, is_tcp(call))?;
+    let message = answer(alloc, serial, call.serial, is_tcp(alloc, call)?)?;
     write_message(&message, out)?;
     Ok(true)
 }

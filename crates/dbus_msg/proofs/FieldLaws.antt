@@ -1,6 +1,6 @@
 -- How header fields are written, one behind the other.
 use Rattle.std.proofs.Common.{◌≡◌, ℕ, ◌+◌, ◌-◌, ◌^◌, ◌<◌, ◌≤◌, Bool, true, false, eqb, List, [], ◌∷◌, ◌++◌, length, Option, Some, None, refl, sym, ap, ◌∙◌, append_assoc, arith}
-use Rattle.std.specs.Prelude.{IfSome}
+use Rattle.std.specs.Prelude.{IfSome, IsTrue, ◌↔◌}
 use Rattle.std.specs.Int.{w32}
 use Rattle.std.proofs.Math.ListN.{set}
 use Rattle.std.proofs.Math.Seq.{set-append_seam}
@@ -108,8 +108,8 @@ signature_all origin place total n (v ∷ vs) old started zero written new some 
     let len : n ≡ length codes = omega (arith, count, whole, at, ap length zeroed, length-append started (0 ∷ []), ap length wrote, length-append zero codes) in
     signature_pushed origin (v ∷ vs) v vs old started new refl le starts (signature_set n place started zero written new codes at zeroed wrote len is)
 
-pub values_left : (values : List Value) (b : Bool) → b ≡ eqb (length values) 0 → b ≡ false → 0 < length values
-values_left [] b is isnt = absurd (true≢false (sym is ∙ isnt))
+pub values_left : (values : List Value) (b : Bool) → IsTrue b ↔ (values ≡ []) → b ≡ false → 0 < length values
+values_left [] b is isnt = absurd (true≢false (sym (is.1 refl) ∙ isnt))
 values_left (v ∷ vs) b is isnt = omega arith
 
 -- ---- all fields

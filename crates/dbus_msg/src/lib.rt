@@ -1,6 +1,7 @@
 //! D-Bus messages: whole or out of a stream in pieces, with names by the grammars of the D-Bus Specification.
 #![tactic(auto)]
 
+mod body;
 mod cutting;
 mod decoder;
 mod header;
@@ -11,6 +12,7 @@ mod names;
 mod reading;
 mod writing;
 
+pub use body::Body;
 pub use decoder::{Decoder, Fed, FeedEnd};
 pub use header::{Header, read_header};
 pub use laws::{a_stream_is_cut_in_one_way, pieces_make_no_difference, written_comes_next};

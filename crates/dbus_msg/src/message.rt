@@ -1,8 +1,7 @@
 //! Messages.
 
-use dbus_wire::Value;
+use crate::body::Body;
 use fw_base::Text;
-use sqlite_items::Items;
 
 /// The header fields of a message that are known (D-Bus Specification, "Header Fields"). The signature is that of the
 /// body's values.
@@ -33,5 +32,5 @@ pub struct Message {
     pub serial: u32,
     pub fields: Fields,
     /// The values of the body, one after the other.
-    pub body: Items<Value>,
+    pub body: Body,
 }

@@ -6,11 +6,13 @@ ghost use Rattle.dbus_signature.specs.Signatures.{SpellsType};
 ghost use Rattle.dbus_msg.specs.Headers.{body_start};
 ghost use Rattle.dbus_msg.specs.Messages.{are_zeros, body_in, fields_in, fields_kind, gap_is_zero, items_in, message_of, with_fields, with_header};
 
+use crate::body::Body;
 use crate::header::{Header, read_header};
 use crate::known::{Known, has_required, known_of};
 use crate::message::Message;
 use dbus_signature::{Basic, Kind, Signature};
-use dbus_wire::{Endian, Value, WireError, read_value, read_values};
+use dbus_held::read_held;
+use dbus_wire::{Endian, Value, WireError, read_value};
 use fw_base::Memory;
 use sqlite_items::{Boxed, Items};
 use std::alloc::Global;
@@ -70,17 +72,17 @@ fn body_in(
     signature: &Option<Signature>,
     start: usize,
     bytes: &[u8],
-) -> Result<Option<Items<Value>>, Memory>
+) -> Result<Option<Body>, Memory>
     requires { start ≤ length bytes.now }
     ensures { IfOk result (λ body. body ≡ body_in endian signature.now start bytes.now) }
 {
     let Some(signature) = signature else {
-        return Ok((start == bytes.len()).then_some(Items::new(alloc)));
+        return Ok((start == bytes.len()).then_some(Body::of(Items::new(alloc))));
     };
     // A signature has types.
     let _ = signature.as_bytes();
-    match read_values(alloc, signature, bytes, start, endian) {
-        Ok((values, end)) if end == bytes.len() => Ok(Some(values)),
+    match read_held(alloc, signature, bytes, start, endian) {
+        Ok((held, end)) if end == bytes.len() => Ok(Some(Body::held(held))),
         Ok(_) => Ok(None),
         Err(WireError::Bad(_)) => Ok(None),
         Err(WireError::Memory) => Err(Memory),

@@ -9,9 +9,10 @@ ghost use Rattle.dbus_msg.specs.Messages.{message_of};
 ghost use Rattle.dbus_msg.specs.Starts.{start};
 ghost use Rattle.dbus_msg.specs.Written.{AreFields, header_fields, IsMessage, number_field, optional, path_field, signature_field, text_field, written};
 
+use crate::body::Body;
 use crate::message::{Fields, Message};
 use dbus_wire::{
-    Endian, Value, push_padding, push_text, push_types, push_u32, push_values, set_u32,
+    Endian, push_padding, push_text, push_u32, set_u32,
 };
 use fw_base::{Memory, Text};
 
@@ -78,7 +79,7 @@ fn push_number(
 
 /// Appends the header field of a body's signature, unless the body is empty.
 #[tactic(auto, using(dbus_wire::proofs::KeepsLaws::keeping))]
-fn push_signature(out: &mut Vec<u8>, origin: usize, body: &[Value]) -> Result<(), Memory>
+fn push_signature(out: &mut Vec<u8>, origin: usize, body: &Body) -> Result<(), Memory>
     requires origin { origin ≤ length out.old.items }
     requires short { length (types_codes body.now) ≤ 255 }
     ensures ok { OnOk result (out.new.items ≡ out.old.items ++ spellings little_endian (signature_field body.now) (length out.old.items - origin)) }
@@ -90,7 +91,7 @@ fn push_signature(out: &mut Vec<u8>, origin: usize, body: &[Value]) -> Result<()
     push_code(out, origin, 8, b'g')?;
     let place = out.as_slice().len();
     out.push(0)?;
-    push_types(out, body)?;
+    body.push_codes(out)?;
     let end = out.as_slice().len();
     out[place] = (end - place - 1) as u8;
     out.push(0)?;
@@ -103,7 +104,7 @@ fn push_fields(
     out: &mut Vec<u8>,
     origin: usize,
     fields: &Fields,
-    body: &[Value],
+    body: &Body,
 ) -> Result<(), Memory>
     requires origin { origin ≤ length out.old.items }
     requires fields { AreFields fields.now }
@@ -143,11 +144,11 @@ fn push_message(message: &Message, out: &mut Vec<u8>) -> Result<(), Memory>
 {
     let origin = out.as_slice().len();
     push_start(out, message.kind, message.flags, message.serial)?;
-    push_fields(out, origin, &message.fields, message.body.as_slice())?;
+    push_fields(out, origin, &message.fields, &message.body)?;
     let fields_end = out.as_slice().len();
     push_padding(out, origin, 8)?;
     let body_start = out.as_slice().len();
-    push_values(out, origin, Endian::Little, message.body.as_slice())?;
+    message.body.push(out, origin, Endian::Little)?;
     let end = out.as_slice().len();
     set_u32(out, origin + 4, Endian::Little, (end - body_start) as u32);
     set_u32(

@@ -39,7 +39,8 @@ fn push_fields(out: &mut String, fields: &Fields) -> Result<()> {
 fn shown(alloc: Global, message: &Message) -> Result<String> {
     let mut out = format!(in alloc; "{} {} {}", message.kind, message.flags, message.serial)?;
     push_fields(&mut out, &message.fields)?;
-    write!(out, " {:?}", message.body.as_slice())?;
+    let body = message.body.values(alloc)?;
+    write!(out, " {:?}", body.as_slice())?;
     Ok(out)
 }
 

@@ -5,7 +5,7 @@ ghost use Rattle.dbus_msg.specs.Written.{IsMessage};
 ghost use Rattle.dbus_wire.specs.declared.value.Value.TheVariants.{Bool as truth_of};
 ghost use Rattle.dbus_samples.specs.Samples.{return_of};
 
-use dbus_msg::{Fields, Message};
+use dbus_msg::{Body, Fields, Message};
 use dbus_wire::Value;
 use fw_base::Memory;
 use sqlite_items::Items;
@@ -29,7 +29,7 @@ fn return_with(serial: u32, reply: u32, body: Items<Value>) -> Message
             sender: None,
             fds: None,
         },
-        body,
+        body: Body::of(body),
     }
 }
 

@@ -1,0 +1,5 @@
+pub mod EndSteps
+pub mod EndLaws
+pub mod Eights
+pub mod HeldLaws
+pub mod LentLaws
