@@ -50,8 +50,8 @@ codes_eighth : (letters : List ℕ) → IsEighth (codes_alignment letters)
 codes_eighth [] = inl refl
 codes_eighth (c ∷ others) =
     by_tests (eqb c 121 || eqb c 103 || eqb c 118) (eqb c 110 || eqb c 113)
-      (eqb c 98 || eqb c 105 || eqb c 117 || eqb c 115 || eqb c 111 || eqb c 97 || eqb c 104)
-      (eqb c 120 || eqb c 116 || eqb c 100 || eqb c 40 || eqb c 123)
+    (eqb c 98 || eqb c 105 || eqb c 117 || eqb c 115 || eqb c 111 || eqb c 97 || eqb c 104)
+    (eqb c 120 || eqb c 116 || eqb c 100 || eqb c 40 || eqb c 123)
 
 -- What is said of a value is said of it at offsets that are eights apart, and its spelling is the same there.
 abbrev Stays : Endian → Said → Type 0

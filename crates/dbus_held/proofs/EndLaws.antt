@@ -120,7 +120,7 @@ items_ends ending item same zero at (c ∷ text) = refl
 items_ends ending item same (suc n) at (c ∷ text) =
     ap (λ (r : Read (Unit {0})). r >>= λ first. items_end ending n first.1 first.2) (same at (c ∷ text))
     ∙ through (item at (c ∷ text)) (λ first. items_end ending n first.1 first.2) (λ first. forget (items_at item n first.1 first.2 >>= λ others. Ok (first.0 ∷ others.0, others.1, others.2)))
-      (λ first. items_ends ending item same n first.1 first.2 ∙ made (λ others. first.0 ∷ others) (items_at item n first.1 first.2))
+    (λ first. items_ends ending item same n first.1 first.2 ∙ made (λ others. first.0 ∷ others) (items_at item n first.1 first.2))
     ∙ later (item at (c ∷ text)) (λ first. items_at item n first.1 first.2 >>= λ others. Ok (first.0 ∷ others.0, others.1, others.2))
 
 contents_ends : {A : Type 0} (ending : Ending) (item : Reader A) → Same ending item → (n at : ℕ) (text : List ℕ) → contents_end ending n at text ≡ forget (contents_at item n at text)
@@ -145,7 +145,7 @@ members_ends ending read same [] at text = refl
 members_ends ending read same (kind ∷ kinds) at text =
     ap (λ (r : Read (Unit {0})). r >>= λ first. members_end ending kinds first.1 first.2) (same kind at text)
     ∙ through (read kind at text) (λ first. members_end ending kinds first.1 first.2) (λ first. forget (members_at read kinds first.1 first.2 >>= λ others. Ok (first.0 ∷ others.0, others.1, others.2)))
-      (λ first. members_ends ending read same kinds first.1 first.2 ∙ made (λ others. first.0 ∷ others) (members_at read kinds first.1 first.2))
+    (λ first. members_ends ending read same kinds first.1 first.2 ∙ made (λ others. first.0 ∷ others) (members_at read kinds first.1 first.2))
     ∙ later (read kind at text) (λ first. members_at read kinds first.1 first.2 >>= λ others. Ok (first.0 ∷ others.0, others.1, others.2))
 
 struct_ends : (ending : Kind → Ending) (read : Kind → Reader Value) → ((k : Kind) → Same (ending k) (read k)) → (kinds : List Kind) → Same (struct_end ending kinds) (struct_at read kinds)
@@ -176,7 +176,7 @@ variant_ends ending read same at text =
     ap (λ (r : Read Kind). r >>= λ kind. ending kind.0 kind.1 kind.2) (type_ends at text)
     ∙ sym (bind_assoc (type_at at text) (λ x. Ok (x.0.0, x.1, x.2)) (λ kind. ending kind.0 kind.1 kind.2))
     ∙ along (type_at at text) _ (λ kind. forget (read kind.0.0 kind.1 kind.2 >>= λ inner. Ok (value.Variant kind.0.1 inner.0, inner.1, inner.2)))
-      (λ kind. same kind.0.0 kind.1 kind.2 ∙ made (value.Variant kind.0.1) (read kind.0.0 kind.1 kind.2))
+    (λ kind. same kind.0.0 kind.1 kind.2 ∙ made (value.Variant kind.0.1) (read kind.0.0 kind.1 kind.2))
     ∙ later (type_at at text) (λ kind. read kind.0.0 kind.1 kind.2 >>= λ inner. Ok (value.Variant kind.0.1 inner.0, inner.1, inner.2))
 
 pair_ends : (e : Endian) (key : Basic) (ending : Ending) (read : Reader Value) → Same ending read → Same (pair_end e key ending) (pair_at e key read)
@@ -184,10 +184,10 @@ unfolding pair_end pair_at
 pair_ends e key ending read same at text =
     along (padding_at 8 at text) _ (λ s. forget (basic_value_at e key s.1 s.2 >>= λ first. read first.1 first.2 >>= λ second. Ok (value.Pair first.0 second.0, second.1, second.2)))
     (λ s.
-      ap (λ (r : Read (Unit {0})). r >>= λ first. ending first.1 first.2) (basic_ends e key s.1 s.2)
-      ∙ through (basic_value_at e key s.1 s.2) (λ first. ending first.1 first.2) (λ first. forget (read first.1 first.2 >>= λ second. Ok (value.Pair first.0 second.0, second.1, second.2)))
-        (λ first. same first.1 first.2 ∙ made (value.Pair first.0) (read first.1 first.2))
-      ∙ later (basic_value_at e key s.1 s.2) (λ first. read first.1 first.2 >>= λ second. Ok (value.Pair first.0 second.0, second.1, second.2)))
+    ap (λ (r : Read (Unit {0})). r >>= λ first. ending first.1 first.2) (basic_ends e key s.1 s.2)
+    ∙ through (basic_value_at e key s.1 s.2) (λ first. ending first.1 first.2) (λ first. forget (read first.1 first.2 >>= λ second. Ok (value.Pair first.0 second.0, second.1, second.2)))
+    (λ first. same first.1 first.2 ∙ made (value.Pair first.0) (read first.1 first.2))
+    ∙ later (basic_value_at e key s.1 s.2) (λ first. read first.1 first.2 >>= λ second. Ok (value.Pair first.0 second.0, second.1, second.2)))
     ∙ later (padding_at 8 at text) (λ s. basic_value_at e key s.1 s.2 >>= λ first. read first.1 first.2 >>= λ second. Ok (value.Pair first.0 second.0, second.1, second.2))
 
 -- ---- whole values

@@ -134,10 +134,10 @@ read_again e codes kinds offset shift bytes text held values end signature types
     let rest : drop shift held ≡ spelt = ap (drop shift) made ∙ drop_at (replicate shift 0) text shift zeros ∙ text_is in
     let len : length held ≡ shift + length spelt = ap length made ∙ length-append (replicate shift 0) text ∙ omega (arith, zeros, ap length text_is) in
     let there : members_at read kinds shift (drop shift held) ≡ Ok (f.0.0, shift + length spelt, []) =
-      subst (λ (l : List ℕ). members_at read kinds shift l ≡ Ok (f.0.0, shift + length spelt, [])) (append-nil spelt ∙ sym rest) again in
+    subst (λ (l : List ℕ). members_at read kinds shift l ≡ Ok (f.0.0, shift + length spelt, [])) (append-nil spelt ∙ sym rest) again in
     let whole : held_read e codes shift held ≡ Ok (values, length held) =
-      subst (λ (vs : List Value). held_read e codes shift held ≡ Ok (vs, length held)) same
-      (subst (λ (n : ℕ). held_read e codes shift held ≡ Ok (f.0.0, n)) (sym len) (held_by e codes kinds shift held f.0.0 (shift + length spelt) types there)) in
+    subst (λ (vs : List Value). held_read e codes shift held ≡ Ok (vs, length held)) same
+    (subst (λ (n : ℕ). held_read e codes shift held ≡ Ok (f.0.0, n)) (sym len) (held_by e codes kinds shift held f.0.0 (shift + length spelt) types there)) in
     (held_as e codes shift held values whole, omega (arith, t.taken.moved, ends, ap length text_is, ap length stay.1))
 
 pub is_held : (e : Endian) (codes : List ℕ) (kinds : List Kind) (offset shift : ℕ) (bytes text held : List ℕ) → IsSignature codes → all_kinds codes ≡ Ok kinds → IsBytes bytes → shift ≡ offset % 8
@@ -149,8 +149,7 @@ is_held e codes kinds offset shift bytes text held signature types fits shifts i
     let h = read_again e codes kinds offset shift bytes text held f.0.0 f.0.1 signature types fits apart f.1 taken made in
     let long : shift ≤ length held = omega (arith, ap length made, length-append (replicate shift 0) text, length-replicate {A = ℕ} shift 0) in
     let read : held_read e codes shift held ≡ Ok (held_values e codes shift held, length held) = rw h.0.same h.0.whole in
-    let found : values_of e kinds offset bytes ≡ Ok (held_values e codes shift held, offset + length text) = rw (h.0.same, ← h.1) f.1 in
-    (
+    let found : values_of e kinds offset bytes ≡ Ok (held_values e codes shift held, offset + length text) = rw (h.0.same, ← h.1) f.1 in (
       record { signature = signature; within = long; read = read },
       λ ls types_too. subst (λ (k : List Kind). values_of e k offset bytes ≡ Ok (held_values e codes shift held, offset + length text)) (ok_is kinds ls (sym types ∙ types_too)) found,
     )

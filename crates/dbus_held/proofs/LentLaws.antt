@@ -118,7 +118,13 @@ placed e (j ∷ ks) zero k at text x are bytes there h =
     let found : (f.0.0 ∷ o.0.0, o.0.1, o.0.2) ≡ x = ok_is (f.0.0 ∷ o.0.0, o.0.1, o.0.2) x o.2 in
     let here : value_alone (read j at text) ≡ Ok f.0.0 = ap value_alone f.1 in
     record {
-      front = []; next = at; rest = text; taken = []; before = refl; takes = record { parts = refl; moved = omega arith }; value = f.0.0;
+      front = [];
+      next = at;
+      rest = text;
+      taken = [];
+      before = refl;
+      takes = record { parts = refl; moved = omega arith };
+      value = f.0.0;
       here = subst (λ (l : Kind). value_alone (read l at text) ≡ Ok f.0.0) same here;
       is = ap (λ (y : List Value × ℕ × List ℕ). slice_get y.0 0) (sym found);
     }
@@ -130,10 +136,14 @@ placed e (j ∷ ks) (suc i) k at text x are bytes there h =
     let t = value_took e max_open j are.0 at text f.0 bytes f.1 in
     let p = placed e ks i k f.0.1 f.0.2 o.0 are.1 (bytes_rest at text (spelling e f.0.0 at) f.0.1 f.0.2 t.0 bytes) there o.1 in
     record {
-      front = f.0.0 ∷ p.front; next = p.next; rest = p.rest; taken = spelling e f.0.0 at ++ p.taken;
+      front = f.0.0 ∷ p.front;
+      next = p.next;
+      rest = p.rest;
+      taken = spelling e f.0.0 at ++ p.taken;
       before = ap (λ (r : Read Value). r >>= λ first. members_at read (take i ks) first.1 first.2 >>= λ others. Ok (first.0 ∷ others.0, others.1, others.2)) f.1 ∙ ap (λ (r : Read (List Value)). r >>= λ others. Ok (f.0.0 ∷ others.0, others.1, others.2)) p.before;
       takes = Takes-then at text (spelling e f.0.0 at) f.0.1 f.0.2 p.taken p.next p.rest t.0 p.takes;
-      value = p.value; here = p.here;
+      value = p.value;
+      here = p.here;
       is = ap (λ (y : List Value × ℕ × List ℕ). slice_get y.0 (suc i)) (sym found) ∙ p.is;
     }
 

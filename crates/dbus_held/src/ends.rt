@@ -11,9 +11,7 @@ ghost use Rattle.dbus_wire.specs.Arrays.{head_at};
 ghost use Rattle.dbus_held.specs.Elements.{element_end, element_align, AreBytes, ElementIs};
 ghost use Rattle.dbus_held.specs.Ends.{array_end, basic_end, closed_value_end, contents_end, entry_end, items_end, members_end, open_value_end, pair_end, struct_end, value_end, variant_end};
 
-use crate::fields::{
-    bool_end, byte_end, padding_at, plain_u32_at, u16_end, u32_end, u64_end,
-};
+use crate::fields::{bool_end, byte_end, padding_at, plain_u32_at, u16_end, u32_end, u64_end};
 use crate::strings::{Holds, front_of, signature_end, string_end, type_end};
 use dbus_signature::{Basic, Cursor, Kind, WireError};
 use dbus_wire::Endian;

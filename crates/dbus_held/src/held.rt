@@ -163,12 +163,7 @@ fn push_spelt(
 }
 
 /// The codes of the types of the values that bytes spell.
-fn codes_held<'a>(
-    endian: Endian,
-    signature: &'a Signature,
-    shift: usize,
-    bytes: &[u8],
-) -> &'a [u8]
+fn codes_held<'a>(endian: Endian, signature: &'a Signature, shift: usize, bytes: &[u8]) -> &'a [u8]
     requires { IsHeld endian signature.now shift bytes.now }
     ensures { types_codes (held_values endian signature.now shift bytes.now) ≡ result.now }
 {
@@ -203,7 +198,14 @@ impl Held {
         ensures { IfOk result (λ found. shown found ≡ slice_get self.now place) }
     {
         let bytes = self.bytes.as_slice();
-        match lent_held(self.alloc, self.endian, &self.signature, self.shift, bytes, place) {
+        match lent_held(
+            self.alloc,
+            self.endian,
+            &self.signature,
+            self.shift,
+            bytes,
+            place,
+        ) {
             Ok(found) => Ok(found),
             Err(WireError::Memory) => Err(Memory),
             Err(WireError::Bad(_)) => unreachable!(),

@@ -87,11 +87,7 @@ fn valid(holds: Holds, bytes: &[u8]) -> Option<&str>
 
 /// The end of a string of so many bytes, and of its closing NUL.
 #[tactic(auto, unfolding(crate::specs::Ends::ended_end))]
-fn ended_end(
-    holds: Holds,
-    count: usize,
-    from: Cursor<'_>,
-) -> Result<((), Cursor<'_>), WireError>
+fn ended_end(holds: Holds, count: usize, from: Cursor<'_>) -> Result<((), Cursor<'_>), WireError>
     ensures { Gives seen result (read_at (ended_end (is_string holds) count) from.entry) }
 {
     if from.rest.len() < count {

@@ -11,9 +11,7 @@ ghost use Rattle.dbus_msg.specs.Written.{AreFields, header_fields, IsMessage, nu
 
 use crate::body::Body;
 use crate::message::{Fields, Message};
-use dbus_wire::{
-    Endian, push_padding, push_text, push_u32, set_u32,
-};
+use dbus_wire::{Endian, push_padding, push_text, push_u32, set_u32};
 use fw_base::{Memory, Text};
 
 /// Appends the code of a header field and the one letter of its type.
@@ -100,12 +98,7 @@ fn push_signature(out: &mut Vec<u8>, origin: usize, body: &Body) -> Result<(), M
 
 /// Appends the header fields of a message with this body, in the order of their codes.
 #[tactic(auto, using(dbus_wire::proofs::KeepsLaws::keeping))]
-fn push_fields(
-    out: &mut Vec<u8>,
-    origin: usize,
-    fields: &Fields,
-    body: &Body,
-) -> Result<(), Memory>
+fn push_fields(out: &mut Vec<u8>, origin: usize, fields: &Fields, body: &Body) -> Result<(), Memory>
     requires origin { origin ≤ length out.old.items }
     requires fields { AreFields fields.now }
     requires short { length (types_codes body.now) ≤ 255 }

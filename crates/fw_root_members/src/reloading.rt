@@ -59,11 +59,7 @@ fn with_stayed(
     Ok(made)
 }
 
-fn reloaded_zones(
-    alloc: Global,
-    permanent: &[Zone],
-    in_force: &[Zone],
-) -> Result<Seq<Zone>, Memory>
+fn reloaded_zones(alloc: Global, permanent: &[Zone], in_force: &[Zone]) -> Result<Seq<Zone>, Memory>
     ensures { IfOk result (λ zones. zones ≡ map (with_stayed permanent.now in_force.now) permanent.now) }
 {
     let mut zones = Seq::new(alloc);

@@ -16,16 +16,16 @@ pub invariant_of-held : goal.invariant_of-held
 invariant_of-held c =
     subst (λ (codes : List ℕ). IsHeld c.args.endian codes (c.args.offset % 8) c.in_ok-behind_zeros.field-0.items) (sym (c.in_ok-of_text.ensures ∙ c.as_bytes-2.ensures.bytes))
     (is_held c.args.endian c.args.signature.now c.in_ok-kinds.kinds c.args.offset (c.args.offset % 8) c.args.bytes.now c.in_ok-spelt.spelt.now c.in_ok-behind_zeros.field-0.items c.as_bytes.ensures.valid
-      (rw c.as_bytes.ensures.bytes at c.in_ok-kinds.ensures) (λ i. omega (arith, c.type_inv.bytes i)) refl (rw c.as_slice.ensures at c.in_ok-spelt.ensures.exact) c.in_ok-behind_zeros.ensures).0
+    (rw c.as_bytes.ensures.bytes at c.in_ok-kinds.ensures) (λ i. omega (arith, c.type_inv.bytes i)) refl (rw c.as_slice.ensures at c.in_ok-spelt.ensures.exact) c.in_ok-behind_zeros.ensures).0
 
 pub returns-clause-exact : goal.returns-clause-exact
 returns-clause-exact c =
     subst (λ (codes : List ℕ). (ls : List Kind) → all_kinds c.args.signature.now ≡ Ok ls → values_of c.args.endian ls c.args.offset c.args.bytes.now ≡ Ok (held_values c.args.endian codes (c.args.offset % 8) c.in_ok-behind_zeros.field-0.items, c.args.offset + length c.in_ok-spelt.spelt.now)) (sym (c.in_ok-of_text.ensures ∙ c.as_bytes-2.ensures.bytes))
     (is_held c.args.endian c.args.signature.now c.in_ok-kinds.kinds c.args.offset (c.args.offset % 8) c.args.bytes.now c.in_ok-spelt.spelt.now c.in_ok-behind_zeros.field-0.items c.as_bytes.ensures.valid
-      (rw c.as_bytes.ensures.bytes at c.in_ok-kinds.ensures) (λ i. omega (arith, c.type_inv.bytes i)) refl (rw c.as_slice.ensures at c.in_ok-spelt.ensures.exact) c.in_ok-behind_zeros.ensures).1
+    (rw c.as_bytes.ensures.bytes at c.in_ok-kinds.ensures) (λ i. omega (arith, c.type_inv.bytes i)) refl (rw c.as_slice.ensures at c.in_ok-spelt.ensures.exact) c.in_ok-behind_zeros.ensures).1
 
 pub returns-clause-spelt : goal.returns-clause-spelt
 returns-clause-spelt c =
     subst (λ (codes : List ℕ). drop c.args.offset c.args.bytes.now ≡ spellings c.args.endian (held_values c.args.endian codes (c.args.offset % 8) c.in_ok-behind_zeros.field-0.items) c.args.offset ++ drop (c.args.offset + length c.in_ok-spelt.spelt.now) c.args.bytes.now) (sym (c.in_ok-of_text.ensures ∙ c.as_bytes-2.ensures.bytes))
     (held_there c.args.endian c.args.signature.now c.in_ok-kinds.kinds c.args.offset (c.args.offset % 8) c.args.bytes.now c.in_ok-spelt.spelt.now c.in_ok-behind_zeros.field-0.items c.as_bytes.ensures.valid
-      (rw c.as_bytes.ensures.bytes at c.in_ok-kinds.ensures) (λ i. omega (arith, c.type_inv.bytes i)) refl (rw c.as_slice.ensures at c.in_ok-spelt.ensures.exact) c.in_ok-behind_zeros.ensures)
+    (rw c.as_bytes.ensures.bytes at c.in_ok-kinds.ensures) (λ i. omega (arith, c.type_inv.bytes i)) refl (rw c.as_slice.ensures at c.in_ok-spelt.ensures.exact) c.in_ok-behind_zeros.ensures)
