@@ -1,6 +1,8 @@
 -- Members that may be refused (firewalld.dbus(5), "Errors"), and steps of which each may refuse: `do` goes through them.
 use Rattle.std.specs.Prelude.{◌≡◌, ℕ, Bool, if◌then◌else◌, List, [], ◌∷◌, Option, None, Some, Result, Ok, Err}
 use Rattle.fw_act.specs.declared.answer.Answer.{Answer}
+use Rattle.fw_act.specs.declared.edit.EditError.{EditError}
+use Rattle.fw_act.specs.declared.edit.EditError.TheVariants as edit
 use Rattle.fw_act.specs.declared.stop.Stop.{Stop}
 use Rattle.fw_act.specs.declared.stop.Stop.TheVariants as stop
 use Rattle.fw_calls.specs.declared.reply.Refusal.{Refusal}
@@ -59,7 +61,22 @@ abbrev pub Reads : {X : Type 0} → Result X Stop → Result X Refusal → Type 
 Reads (Ok x) wanted = wanted ≡ Ok x
 Reads (Err stop) wanted = Stops stop wanted
 
+-- What an edit that names what it refuses made of the settings: what it is to make of them, its refusal, or want of memory.
+abbrev pub Makes : {S : Type 0} → (new : S) → Result (Unit {0}) Stop → Result S Refusal → Type 0
+Makes new (Ok done) wanted = wanted ≡ Ok new
+Makes new (Err stop) wanted = Stops stop wanted
+
 -- What a member did: what it is to answer and to make of the settings; its refusal; or want of memory.
 abbrev pub Acts : {S : Type 0} → (new : S) → Result Answer Stop → Result (Answered S) Refusal → Type 0
 Acts new (Ok answer) wanted = wanted ≡ Ok (record { signals = answer.signals; reply = answer.reply; after = new })
 Acts new (Err stop) wanted = Stops stop wanted
+
+-- A refusal leaves the settings as they were. After want of memory nothing is said of them here.
+abbrev pub Keeps : {S X : Type 0} → (old new : S) → Result X Stop → Type 0
+Keeps old new result = (refusal : Refusal) → result ≡ Err (stop.Refused refusal) → new ≡ old
+
+-- What an edit did: what it is to make of the settings; its refusal, and no change; or want of memory, and no change.
+abbrev pub Edits : {S D : Type 0} → (old new : S) → Result D EditError → Result S Code → Type 0
+Edits old new (Ok done) wanted = wanted ≡ Ok new
+Edits old new (Err (edit.Refused code)) wanted = (wanted ≡ Err code) × (new ≡ old)
+Edits old new (Err edit.Memory) wanted = new ≡ old

@@ -9,9 +9,3 @@ pub mod RootNumbering
 pub mod RootReloading
 pub mod TimeLinks
 pub mod TimeTicks
-pub mod ZoneAsking
-pub mod ZoneBindings
-pub mod ZoneInversion
-pub mod ZoneReading
-pub mod ZoneRichRules
-pub mod ZoneSettings

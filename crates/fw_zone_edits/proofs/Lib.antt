@@ -1,0 +1,4 @@
+pub mod Bindings
+pub mod Forwards
+pub mod Placed
+pub mod Plain

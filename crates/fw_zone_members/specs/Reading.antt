@@ -29,6 +29,7 @@ use Rattle.fw_model.specs.declared.config.Config.{Config}
 use Rattle.fw_model.specs.declared.forward.Forward.{Forward}
 use Rattle.fw_model.specs.declared.ipset.IpSet.{IpSet}
 use Rattle.fw_model.specs.declared.port.Port.{Port}
+use Rattle.fw_model.specs.declared.service.Service.{Service}
 use Rattle.fw_model.specs.declared.setting.Setting.{Setting}
 use Rattle.fw_model.specs.declared.setting.Setting.TheVariants as setting
 use Rattle.fw_service.specs.Known.{is_known}
@@ -36,7 +37,7 @@ use Rattle.fw_words.specs.Keys.{after_key}
 use Rattle.fw_zone_edits.specs.Zones.{Found, zone_meant}
 use Rattle.fw_zone_edits.specs.declared.entry.Entry.{Entry}
 use Rattle.fw_zone_edits.specs.declared.entry.Entry.TheVariants as entry
-use Rattle.fw_machine.specs.ZoneRichRules.{rule_of}
+use Rattle.fw_zone_members.specs.RichRules.{rule_of}
 
 -- the zone that a call names, or its refusal
 abbrev pub look_up : Config → (name : List ℕ) → Result Found Refusal
@@ -93,10 +94,18 @@ abbrev pub protocol_from : (protocol : List ℕ) → Option ℕ → Result Setti
 protocol_from protocol None = refused code.InvalidProtocol protocol
 protocol_from protocol (Some number) = Ok (setting.Protocol number)
 
+-- a service of those that there are
+abbrev pub service_of : List Service → (name : List ℕ) → Result Setting Refusal
+service_of services name = if is_known services name then Ok (setting.Service name) else refused code.InvalidService name
+
+-- an ICMP type by its name
+abbrev pub icmp_of : (name : List ℕ) → Result Setting Refusal
+icmp_of name = if is_some (icmp name) then Ok (setting.IcmpBlock name) else refused code.InvalidIcmptype name
+
 -- the setting that a call's arguments spell, or the first refusal; a service is one of those in force, and so are those and the
 -- ipsets of a rule
 abbrev pub setting_of : Config → SettingWords → Result Setting Refusal
-setting_of config (words.Service name) = if is_known config.services name then Ok (setting.Service name) else refused code.InvalidService name
+setting_of config (words.Service name) = service_of config.services name
 setting_of config (words.Port port protocol) = do
   port ← port_of port protocol
   Ok (setting.Port port)
@@ -104,7 +113,7 @@ setting_of config (words.SourcePort port protocol) = do
   port ← port_of port protocol
   Ok (setting.SourcePort port)
 setting_of config (words.Protocol protocol) = protocol_from protocol (proto protocol)
-setting_of config (words.IcmpBlock name) = if is_some (icmp name) then Ok (setting.IcmpBlock name) else refused code.InvalidIcmptype name
+setting_of config (words.IcmpBlock name) = icmp_of name
 setting_of config words.Masquerade = Ok setting.Masquerade
 setting_of config (words.ForwardPort port protocol to_port to_address) = do
   forward ← forward_of port protocol to_port to_address

@@ -1,5 +1,5 @@
 -- Members on settings of a zone (firewalld.dbus(5), `addPort`, `removePort`, `queryPort` and their kin).
-use Rattle.std.specs.Prelude.{ℕ, ℤ, ◌+◌, ◌==◌, if◌then◌else◌, List, [], ◌∷◌, ◌++◌, Result, Ok}
+use Rattle.std.specs.Prelude.{ℕ, ℤ, ◌+◌, ◌==◌, if◌then◌else◌, List, [], ◌∷◌, ◌++◌, Option, None, Some, Result, Ok}
 use Rattle.fw_act.specs.Acts.{Answered, ◌>>=◌, changed, refused_as, replied}
 use Rattle.fw_calls.specs.declared.call.SettingVerb.{SettingVerb}
 use Rattle.fw_calls.specs.declared.call.SettingVerb.TheVariants as verb
@@ -7,19 +7,23 @@ use Rattle.fw_calls.specs.declared.call.SettingWords.{SettingWords}
 use Rattle.fw_calls.specs.declared.reply.Refusal.{Refusal}
 use Rattle.fw_calls.specs.declared.reply.Reply.TheVariants as reply
 use Rattle.fw_model.specs.declared.setting.Setting.{Setting}
+use Rattle.fw_model.specs.declared.setting.Timed.{Timed}
 use Rattle.fw_settings.specs.Parts.{with_timers, with_zones}
 use Rattle.fw_settings.specs.declared.settings.Settings.{Settings}
 use Rattle.fw_timed.specs.Timers.{without_timers}
 use Rattle.fw_zone_edits.specs.Settings.{added_at, has, removed_at}
 use Rattle.fw_zone_edits.specs.Signals.{added_signal, removed_signal}
 use Rattle.fw_zone_edits.specs.Texts.{setting_text}
-use Rattle.fw_machine.specs.ZoneReading.{look_up, seconds_of, setting_of}
+use Rattle.fw_zone_members.specs.Reading.{look_up, seconds_of, setting_of}
 
--- the settings with a timer of one that came, unless it stays for good
-abbrev pub with_timer : Settings → (zone : List ℕ) → Setting → (seconds : ℕ) → Settings
-with_timer settings zone setting seconds =
-    if seconds == 0 then settings
-    else with_timers settings (settings.timers ++ record { deadline = settings.now + seconds; zone = zone; setting = setting } ∷ [])
+-- the timer of a setting that came, unless it stays for good
+abbrev pub timer : (now : ℕ) → (zone : List ℕ) → Setting → (seconds : ℕ) → Option Timed
+timer now zone setting seconds = if seconds == 0 then None else Some (record { deadline = now + seconds; zone = zone; setting = setting })
+
+-- timers, and one more if there is one, the last
+abbrev pub with_timer : List Timed → Option Timed → List Timed
+with_timer timers None = timers
+with_timer timers (Some timed) = timers ++ timed ∷ []
 
 -- `addX(zone, arguments, timeout)`
 unfoldable pub add_setting : Settings → (zone : List ℕ) → (timeout : ℤ) → SettingWords → Result (Answered Settings) Refusal
@@ -29,7 +33,7 @@ add_setting settings zone timeout words = do
   setting ← setting_of settings.runtime.config words
   zones ← refused_as (setting_text setting) (added_at settings.runtime.config.zones found setting)
   Ok (changed (added_signal found.zone.name setting timeout) (reply.Text found.zone.name)
-      (with_timer (with_zones settings zones) found.zone.name setting seconds))
+      (with_timers (with_zones settings zones) (with_timer settings.timers (timer settings.now found.zone.name setting seconds))))
 
 -- `removeX(zone, arguments)`
 unfoldable pub remove_setting : Settings → (zone : List ℕ) → SettingWords → Result (Answered Settings) Refusal

@@ -12,7 +12,7 @@ use Rattle.fw_model.specs.declared.code.Code.TheVariants as code
 use Rattle.fw_settings.specs.Parts.{with_zones}
 use Rattle.fw_settings.specs.declared.settings.Settings.{Settings}
 use Rattle.fw_zone_edits.specs.Zones.{Found}
-use Rattle.fw_machine.specs.ZoneReading.{look_up}
+use Rattle.fw_zone_members.specs.Reading.{look_up}
 
 abbrev pub subject : List ℕ
 subject = codes "icmp-block-inversion"

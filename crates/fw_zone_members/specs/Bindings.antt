@@ -10,7 +10,7 @@ use Rattle.fw_settings.specs.Parts.{with_zones}
 use Rattle.fw_settings.specs.declared.settings.Settings.{Settings}
 use Rattle.fw_zone_edits.specs.Entries.{bound, holder, lists, moved, unbound}
 use Rattle.fw_zone_edits.specs.Signals.{bound_kind, entry_signal, moved_kind, unbound_kind}
-use Rattle.fw_machine.specs.ZoneReading.{entry_of, look_up}
+use Rattle.fw_zone_members.specs.Reading.{entry_of, look_up}
 
 -- `addX(zone, entry)`
 unfoldable pub add_binding : Settings → (zone : List ℕ) → BindingWord → Result (Answered Settings) Refusal

@@ -8,7 +8,7 @@ use Rattle.fw_calls.specs.declared.reply.Reply.TheVariants as reply
 use Rattle.fw_model.specs.declared.zone.Zone.{Zone}
 use Rattle.fw_settings.specs.declared.settings.Settings.{Settings}
 use Rattle.fw_zone_edits.specs.Entries.{source_text}
-use Rattle.fw_machine.specs.ZoneReading.{look_up}
+use Rattle.fw_zone_members.specs.Reading.{look_up}
 
 -- `getZones()`: the names of the zones in force
 abbrev pub zones_member : Settings → Answered Settings

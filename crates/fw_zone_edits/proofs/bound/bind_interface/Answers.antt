@@ -1,0 +1,25 @@
+-- What the zones are after the edit, by its relations.
+use Rattle.std.proofs.Common.{◌≡◌, Some, Result, OnErr, slice_get, sym, subst}
+use Rattle.std.specs.Str.{bytes_eq}
+use Rattle.fw_model.specs.declared.code.Code.TheVariants as code
+use Rattle.fw_model.specs.declared.zone.Zone.{Zone}
+use Rattle.fw_zone.specs.Bindings.{interfaces_of, with_interfaces}
+use Rattle.fw_zone_edits.proofs.Bindings.{bind_edits, settled_err}
+use Rattle.fw_answer.proofs.Equality.{texts}
+use Rattle.fw_zone_edits.specs.Entries.{bound}
+use Rattle.fw_act.specs.Acts.{Edits}
+use Rattle.fw_act.specs.declared.edit.EditError.{EditError}
+use Rattle.fw_zone_edits.specs.declared.entry.Entry.TheVariants as entries
+use Rattle.fw_zone_edits.proofs.bound.bind_interface.Goals as goal
+
+pub returns-clause-edits : goal.returns-clause-edits
+returns-clause-edits c = λ (zone : Zone) (at : slice_get c.args.zones.now c.args.place ≡ Some zone).
+    subst (λ (result : Result (Unit {0}) EditError). Edits c.args.zones.now c.bind_iface.new.zones result (bound c.args.zones.now (record { place = c.args.place; zone = zone }) (entries.Interface c.args.iface)))
+    (sym c.settled.ensures)
+    (bind_edits interfaces_of with_interfaces bytes_eq texts c.args.iface code.UnknownInterface c.args.zones.now c.bind_iface.new.zones c.args.place zone c.bind_iface.result at
+    c.bind_iface.ensures.bound c.bind_iface.ensures.already c.bind_iface.ensures.conflict c.bind_iface.ensures.known c.bind_iface.ensures.err)
+
+pub returns-clause-err : goal.returns-clause-err
+returns-clause-err c =
+    subst (λ (result : Result (Unit {0}) EditError). OnErr result (c.bind_iface.new.zones ≡ c.args.zones.now)) (sym c.settled.ensures)
+    (settled_err code.UnknownInterface (c.bind_iface.new.zones ≡ c.args.zones.now) c.bind_iface.result c.bind_iface.ensures.err)

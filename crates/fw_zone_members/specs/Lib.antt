@@ -1,0 +1,6 @@
+pub mod Asking
+pub mod Bindings
+pub mod Inversion
+pub mod Reading
+pub mod RichRules
+pub mod Settings

@@ -1,0 +1,20 @@
+//! What the daemon answers to calls on zones, and what they make of its settings (firewalld.dbus(5), interface
+//! `org.fedoraproject.FirewallD1.zone`): settings of zones, timed ones among them, interfaces and sources, and queries.
+#![tactic(auto)]
+
+mod asking;
+mod bindings;
+mod edits;
+mod entry;
+mod inversion;
+mod port;
+mod reading;
+mod rich;
+mod setting;
+mod settings;
+mod told;
+
+pub use asking::{active_zones_member, zone_settings_member, zones_member};
+pub use bindings::{binding_member, zone_of_member};
+pub use inversion::inversion_member;
+pub use settings::setting_member;
