@@ -1,7 +1,3 @@
-pub mod IpsetEntries
-pub mod IpsetItems
-pub mod IpsetMembers
-pub mod IpsetSets
 pub mod Proposals
 pub mod RootChanging
 pub mod RootLogDenied

@@ -28,6 +28,7 @@ itself false = (λ is. cc, λ is. cc)
 
 -- whether a setting is there
 pub has_decides : (rules : Rules) (one : Setting) → Decides (has rules one) (Has rules one)
+unfolding has
 has_decides rules (setting.Service name) = is_in_decides bytes_eq equality.texts name rules.services
 has_decides rules (setting.Port port) = is_in_decides same_port equality.ports port rules.ports
 has_decides rules (setting.Protocol protocol) = is_in_decides nat_eq equality.numbers protocol rules.protocols
@@ -81,6 +82,7 @@ not_masked rules b is no_mask = λ i. record rules { masquerade = sym (is ∙ no
 
 -- the settings without one that isn't there
 pub without_none : (rules : Rules) (one : Setting) → has rules one ≡ false → without_setting rules one ≡ rules
+unfolding has
 without_none rules (setting.Service name) is = ap (λ items. record rules { services = items }) (without_absent bytes_eq name rules.services is)
 without_none rules (setting.Port port) is = ap (λ items. record rules { ports = items }) (without_absent same_port port rules.ports is)
 without_none rules (setting.Protocol protocol) is = ap (λ items. record rules { protocols = items }) (without_absent nat_eq protocol rules.protocols is)

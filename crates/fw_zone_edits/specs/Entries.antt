@@ -47,14 +47,14 @@ unknown (entry.Interface name) = code.UnknownInterface
 unknown (entry.Source source) = code.UnknownSource
 
 -- the zones after an entry was bound to one of them
-abbrev pub bound : List Zone → Found → Entry → Result (List Zone) Code
+unfoldable pub bound : List Zone → Found → Entry → Result (List Zone) Code
 bound zones found entry =
     if lists entry found.zone then Err code.ZoneAlreadySet
     else (if list_any (lists entry) zones then Err code.ZoneConflict
     else Ok (slice_set zones found.place (with_entry found.zone entry)))
 
 -- the zones after an entry was taken from one of them
-abbrev pub unbound : List Zone → Found → Entry → Result (List Zone) Code
+unfoldable pub unbound : List Zone → Found → Entry → Result (List Zone) Code
 unbound zones found entry =
     if lists entry found.zone then Ok (slice_set zones found.place (without_entry found.zone entry))
     else (if list_any (lists entry) zones then Err code.ZoneConflict else Err (unknown entry))
@@ -69,7 +69,7 @@ abbrev pub taken : List Zone → Entry → List Zone
 taken zones entry = first_changed (lists entry) (λ zone. without_entry zone entry) zones
 
 -- the zones after an entry was bound to one of them, whichever had it
-abbrev pub moved : List Zone → Found → Entry → List Zone
+unfoldable pub moved : List Zone → Found → Entry → List Zone
 moved zones found entry =
     if lists entry found.zone then zones
     else slice_set (taken zones entry) found.place (with_entry found.zone entry)

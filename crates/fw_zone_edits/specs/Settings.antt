@@ -19,7 +19,7 @@ unfoldable pub same_forward : Forward → Forward → Bool
 same_forward = (forward.ghosts).eq
 
 -- whether a setting is there
-abbrev pub has : Rules → Setting → Bool
+unfoldable pub has : Rules → Setting → Bool
 has rules (setting.Service name) = is_in bytes_eq name rules.services
 has rules (setting.Port port) = is_in same_port port rules.ports
 has rules (setting.Protocol protocol) = is_in nat_eq protocol rules.protocols
@@ -52,8 +52,8 @@ abbrev pub edited : List Zone → (place : ℕ) → Result Zone Code → Result 
 edited zones place (Ok zone) = Ok (slice_set zones place zone)
 edited zones place (Err code) = Err code
 
-abbrev pub added_at : List Zone → Found → Setting → Result (List Zone) Code
+unfoldable pub added_at : List Zone → Found → Setting → Result (List Zone) Code
 added_at zones found setting = edited zones found.place (added found.zone setting)
 
-abbrev pub removed_at : List Zone → Found → Setting → Result (List Zone) Code
+unfoldable pub removed_at : List Zone → Found → Setting → Result (List Zone) Code
 removed_at zones found setting = edited zones found.place (removed found.zone setting)

@@ -33,14 +33,14 @@ removed_kind (setting.Forward forward) = signal.ZoneForwardPortRemoved
 removed_kind (setting.Rich rule) = signal.ZoneRichRuleRemoved
 
 -- a setting that came, with its timeout in seconds
-abbrev pub added_signal : (zone : List ℕ) → Setting → (timeout : ℤ) → Signal
+unfoldable pub added_signal : (zone : List ℕ) → Setting → (timeout : ℤ) → Signal
 added_signal zone setting timeout = record {
   kind = added_kind setting;
   args = arg.Text zone ∷ setting_args setting ++ arg.Int timeout ∷ [];
 }
 
 -- a setting that went
-abbrev pub removed_signal : (zone : List ℕ) → Setting → Signal
+unfoldable pub removed_signal : (zone : List ℕ) → Setting → Signal
 removed_signal zone setting = record { kind = removed_kind setting; args = arg.Text zone ∷ setting_args setting }
 
 -- interfaces and sources
@@ -56,5 +56,5 @@ abbrev pub moved_kind : Entry → SignalKind
 moved_kind (entry.Interface name) = signal.ZoneOfInterfaceChanged
 moved_kind (entry.Source source) = signal.ZoneOfSourceChanged
 
-abbrev pub entry_signal : SignalKind → (zone : List ℕ) → Entry → Signal
+unfoldable pub entry_signal : SignalKind → (zone : List ℕ) → Entry → Signal
 entry_signal kind zone entry = record { kind = kind; args = arg.Text zone ∷ arg.Text (entry_text entry) ∷ [] }

@@ -32,7 +32,7 @@ forward_text forward =
     port_text forward.port ++ (58 ∷ (to_port_text forward.to_port ++ (58 ∷ to_address_text forward.to_addr)))
 
 -- a setting's canonical text
-abbrev pub setting_text : Setting → List ℕ
+unfoldable pub setting_text : Setting → List ℕ
 setting_text (setting.Service name) = name
 setting_text (setting.Port port) = port_text port
 setting_text (setting.Protocol protocol) = proto_text protocol

@@ -11,6 +11,7 @@ use fw_model::{Forward, Port, Setting};
 use std::alloc::Global;
 
 /// The signal that a setting came to a zone, with its timeout in seconds; 0 is for good.
+#[tactic(auto, unfolding(crate::specs::Signals::added_signal))]
 pub fn added_signal(
     alloc: Global,
     zone: &str,
@@ -29,6 +30,7 @@ pub fn added_signal(
 }
 
 /// The signal that a setting left a zone.
+#[tactic(auto, unfolding(crate::specs::Signals::removed_signal))]
 pub fn removed_signal(alloc: Global, zone: &str, setting: &Setting) -> Result<Signal, Memory>
     ensures { IfOk result (λ signal. signal ≡ removed_signal zone.now setting.now) }
 {
@@ -41,6 +43,7 @@ pub fn removed_signal(alloc: Global, zone: &str, setting: &Setting) -> Result<Si
 }
 
 /// A signal of this kind, with a zone's name and an interface or a source.
+#[tactic(auto, unfolding(crate::specs::Signals::entry_signal))]
 pub fn entry_signal(
     alloc: Global,
     kind: SignalKind,
@@ -64,6 +67,7 @@ fn zone_args(alloc: Global, zone: &str) -> Result<Seq<Arg>, Memory>
 }
 
 /// Appends a setting as arguments.
+#[tactic(auto, unfolding(crate::specs::Texts::setting_text))]
 fn push_setting(alloc: Global, args: &mut Seq<Arg>, setting: &Setting) -> Result<(), Memory>
     ensures { OnOk result (args.new ≡ args.old ++ setting_args setting.now) }
 {

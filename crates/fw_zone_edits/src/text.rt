@@ -9,6 +9,7 @@ use fw_rich::print_rich;
 use std::alloc::Global;
 
 /// A setting's canonical text, as refusals name it: a name, `80/tcp`, `80/tcp:8080:10.0.0.5`, a rich rule, `masquerade`.
+#[tactic(auto, unfolding(crate::specs::Texts::setting_text))]
 pub fn setting_text(alloc: Global, setting: &Setting) -> Result<Text, Memory>
     ensures { IfOk result (λ text. text ≡ setting_text setting.now) }
 {

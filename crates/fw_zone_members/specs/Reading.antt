@@ -40,11 +40,11 @@ use Rattle.fw_zone_edits.specs.declared.entry.Entry.TheVariants as entry
 use Rattle.fw_zone_members.specs.RichRules.{rule_of}
 
 -- the zone that a call names, or its refusal
-abbrev pub look_up : Config → (name : List ℕ) → Result Found Refusal
+unfoldable pub look_up : Config → (name : List ℕ) → Result Found Refusal
 look_up config name = found_or code.InvalidZone name (zone_meant config name)
 
 -- a timeout in seconds; none is below 0
-abbrev pub seconds_of : (timeout : ℤ) → Result ℕ Refusal
+unfoldable pub seconds_of : (timeout : ℤ) → Result ℕ Refusal
 seconds_of timeout = if int_lt timeout (pos 0) then refused code.InvalidValue (signed_decimal timeout) else Ok (unsigned_abs timeout)
 
 -- the port of a range that was spelled, by the text of its protocol
@@ -104,7 +104,7 @@ icmp_of name = if is_some (icmp name) then Ok (setting.IcmpBlock name) else refu
 
 -- the setting that a call's arguments spell, or the first refusal; a service is one of those in force, and so are those and the
 -- ipsets of a rule
-abbrev pub setting_of : Config → SettingWords → Result Setting Refusal
+unfoldable pub setting_of : Config → SettingWords → Result Setting Refusal
 setting_of config (words.Service name) = service_of config.services name
 setting_of config (words.Port port protocol) = do
   port ← port_of port protocol
@@ -148,5 +148,5 @@ entry_from ipsets kind.Interface text = interface_from text (interface text)
 entry_from ipsets kind.Source text = source_from ipsets text (after_key (codes "ipset:") text)
 
 -- the interface or the source that an argument spells, or its refusal; an ipset is one of those in force
-abbrev pub entry_of : List IpSet → BindingWord → Result Entry Refusal
+unfoldable pub entry_of : List IpSet → BindingWord → Result Entry Refusal
 entry_of ipsets word = entry_from ipsets word.kind word.text

@@ -17,11 +17,11 @@ use Rattle.fw_zone_edits.specs.Texts.{setting_text}
 use Rattle.fw_zone_members.specs.Reading.{look_up, seconds_of, setting_of}
 
 -- the timer of a setting that came, unless it stays for good
-abbrev pub timer : (now : ℕ) → (zone : List ℕ) → Setting → (seconds : ℕ) → Option Timed
+unfoldable pub timer : (now : ℕ) → (zone : List ℕ) → Setting → (seconds : ℕ) → Option Timed
 timer now zone setting seconds = if seconds == 0 then None else Some (record { deadline = now + seconds; zone = zone; setting = setting })
 
 -- timers, and one more if there is one, the last
-abbrev pub with_timer : List Timed → Option Timed → List Timed
+unfoldable pub with_timer : List Timed → Option Timed → List Timed
 with_timer timers None = timers
 with_timer timers (Some timed) = timers ++ timed ∷ []
 

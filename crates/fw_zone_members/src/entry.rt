@@ -18,6 +18,7 @@ use fw_zone_edits::Entry;
 use std::alloc::Global;
 
 /// The entry that an argument spells; an ipset is one of those that there are.
+#[tactic(auto, unfolding(crate::specs::Reading::entry_of))]
 pub fn read_entry(alloc: Global, ipsets: &[IpSet], word: &BindingWord) -> Result<Entry, Stop>
     ensures { Reads result (entry_of ipsets.now word.now) }
 {

@@ -14,6 +14,7 @@ use fw_service::knows;
 use std::alloc::Global;
 
 /// The setting that a call's arguments spell. A service is one of those of the configuration, and so are those and the ipsets of a rule.
+#[tactic(auto, unfolding(crate::specs::Reading::setting_of))]
 pub fn read_setting(alloc: Global, config: &Config, words: &SettingWords) -> Result<Setting, Stop>
     ensures { Reads result (setting_of config.now words.now) }
 {

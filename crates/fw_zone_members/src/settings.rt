@@ -66,6 +66,7 @@ fn add_setting(
 }
 
 /// The timer of a setting that came, unless it stays for good.
+#[tactic(auto, unfolding(crate::specs::Settings::timer))]
 fn timer(
     alloc: Global,
     now: u64,
@@ -86,6 +87,7 @@ fn timer(
     }))
 }
 
+#[tactic(auto, unfolding(crate::specs::Settings::with_timer))]
 fn push_timer(timers: &mut Timers, timed: Option<Timed>) -> Result<(), Memory>
     ensures { OnOk result (timers.new ≡ with_timer timers.old timed) }
 {

@@ -12,6 +12,7 @@ use Rattle.fw_zone_edits.specs.declared.entry.Entry.TheVariants as entries
 use Rattle.fw_zone_edits.proofs.bound.move_interface.Goals as goal
 
 pub returns-clause-edits : goal.returns-clause-edits
+unfolding moved
 returns-clause-edits c = λ (zone : Zone) (at : slice_get c.args.zones.now c.args.place ≡ Some zone).
     subst (λ (result : Result (Unit {0}) EditError). Edits c.args.zones.now c.move_iface.new.zones result (Ok (moved c.args.zones.now (record { place = c.args.place; zone = zone }) (entries.Interface c.args.iface))))
     (sym c.settled_move.ensures)

@@ -13,6 +13,7 @@ use Rattle.fw_zone_edits.specs.declared.entry.Entry.TheVariants as entries
 use Rattle.fw_zone_edits.proofs.bound.unbind_interface.Goals as goal
 
 pub returns-clause-edits : goal.returns-clause-edits
+unfolding unbound
 returns-clause-edits c = λ (zone : Zone) (at : slice_get c.args.zones.now c.args.place ≡ Some zone).
     subst (λ (result : Result (Unit {0}) EditError). Edits c.args.zones.now c.unbind_iface.new.zones result (unbound c.args.zones.now (record { place = c.args.place; zone = zone }) (entries.Interface c.args.iface.now)))
     (sym c.settled.ensures)

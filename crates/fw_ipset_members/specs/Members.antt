@@ -11,9 +11,9 @@ use Rattle.fw_model.specs.declared.config.Config.{Config}
 use Rattle.fw_model.specs.declared.ipset.IpSet.{IpSet}
 use Rattle.fw_settings.specs.Parts.{with_ipsets}
 use Rattle.fw_settings.specs.declared.settings.Settings.{Settings}
-use Rattle.fw_machine.specs.IpsetEntries.{entry_call, set_entries}
-use Rattle.fw_machine.specs.IpsetItems.{item_text}
-use Rattle.fw_machine.specs.IpsetSets.{Found, is_known, set_named}
+use Rattle.fw_ipset_members.specs.Entries.{entry_call, set_entries}
+use Rattle.fw_ipset_members.specs.Items.{item_text}
+use Rattle.fw_ipset_members.specs.Sets.{Found, is_known, set_named}
 
 -- the ipset that a call names, or its refusal
 abbrev pub look_up : Config → (name : List ℕ) → Result Found Refusal

@@ -14,7 +14,7 @@ use Rattle.fw_ipset.specs.Entries.{with_items}
 use Rattle.fw_model.specs.declared.code.Code.TheVariants as code
 use Rattle.fw_model.specs.declared.ipset.IpSet.{IpSet}
 use Rattle.fw_model.specs.declared.ipset.Item.{Item}
-use Rattle.fw_machine.specs.IpsetItems.{added, each_once, holds, item_of, item_text, items_of, none_of, removed}
+use Rattle.fw_ipset_members.specs.Items.{added, each_once, holds, item_of, item_text, items_of, none_of, removed}
 
 -- a signal of an ipset and an entry
 abbrev pub entry_signal : SignalKind → (name : List ℕ) → Item → Signal

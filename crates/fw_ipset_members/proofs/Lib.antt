@@ -1,0 +1,4 @@
+pub mod Edited
+pub mod InSet
+pub mod Once
+pub mod Reading

@@ -1,0 +1,4 @@
+pub mod Entries
+pub mod Items
+pub mod Members
+pub mod Sets
