@@ -3,5 +3,6 @@
 
 mod keys;
 mod shape;
+mod values;
 
 pub use shape::{Owner, Shape};
