@@ -1,2 +1,4 @@
 pub mod Keys
+pub mod Lists
+pub mod Targets
 pub mod Values

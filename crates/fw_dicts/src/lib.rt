@@ -2,7 +2,9 @@
 #![tactic(auto)]
 
 mod keys;
+mod lists;
 mod shape;
+mod targets;
 mod values;
 
 pub use shape::{Owner, Shape};
