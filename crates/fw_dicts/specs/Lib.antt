@@ -1,4 +1,6 @@
+pub mod Bindings
 pub mod Keys
 pub mod Lists
 pub mod Targets
 pub mod Values
+pub mod Zones
