@@ -4,17 +4,13 @@ use Rattle.std.specs.Prelude.{ℕ, codes, List, [], ◌∷◌, ◌++◌, map}
 use Rattle.fw_addr.specs.Ports.{ports_text}
 use Rattle.fw_addr.specs.Protocols.{port_proto_text, proto_text}
 use Rattle.fw_calls.specs.declared.dict.Dict.{Dict}
+use Rattle.fw_calls.specs.declared.dict.DictField.{DictField}
 use Rattle.fw_calls.specs.declared.dict.DictField.TheVariants as value
 use Rattle.fw_dicts.specs.Keys.{Fields}
-use Rattle.fw_dicts.specs.Lists.{rich_key}
 use Rattle.fw_dicts.specs.Targets.{policy_target_text, zone_target_text}
-use Rattle.fw_dicts.specs.declared.shape.Owner.{Owner}
-use Rattle.fw_dicts.specs.declared.shape.Owner.TheVariants as owner
 use Rattle.fw_model.specs.declared.forward.Forward.{Forward}
-use Rattle.fw_model.specs.declared.notes.Notes.{Notes}
 use Rattle.fw_model.specs.declared.policy.Policy.{Policy}
 use Rattle.fw_model.specs.declared.port.Port.{Port}
-use Rattle.fw_model.specs.declared.rules.Rules.{Rules}
 use Rattle.fw_model.specs.declared.zone.Zone.{Zone}
 use Rattle.fw_rich.specs.Canonical.{canon}
 use Rattle.fw_zone_edits.specs.Entries.{source_text}
@@ -28,37 +24,39 @@ port_row port = ports_text port.range ∷ port_proto_text port.proto ∷ []
 abbrev pub forward_row : Forward → List (List ℕ)
 forward_row forward = ports_text forward.port.range ∷ port_proto_text forward.port.proto ∷ to_port_text forward.to_port ∷ to_address_text forward.to_addr ∷ []
 
-unfoldable pub notes_fields : Notes → Fields
-notes_fields notes =
-    (codes "version", value.Text notes.version) ∷ (codes "short", value.Text notes.short)
-    ∷ (codes "description", value.Text notes.description) ∷ []
+-- keys that come behind others, one after another
+unfoldable pub with_field : Fields → (key : List ℕ) → DictField → Fields
+with_field fields key value = fields ++ (key, value) ∷ []
 
--- the settings that stand before masquerade
-unfoldable pub first_fields : Rules → Fields
-first_fields rules =
-    (codes "services", value.Texts rules.services) ∷ (codes "ports", value.Rows (map port_row rules.ports))
-    ∷ (codes "protocols", value.Texts (map proto_text rules.protocols)) ∷ (codes "source_ports", value.Rows (map port_row rules.source_ports))
-    ∷ (codes "icmp_blocks", value.Texts rules.icmp_blocks) ∷ []
+abbrev pub with_fields : (fields rows : Fields) → Fields
+with_fields fields [] = fields
+with_fields fields (row ∷ rows) = with_fields (with_field fields row.0 row.1) rows
 
--- masquerade, and the settings behind it
-unfoldable pub last_fields : Owner → Rules → Fields
-last_fields owner rules =
-    (codes "masquerade", value.Bool rules.masquerade) ∷ (codes "forward_ports", value.Rows (map forward_row rules.forwards))
-    ∷ (rich_key owner, value.Texts (map canon rules.rich)) ∷ []
+unfoldable pub zone_fields : Zone → Fields
+zone_fields zone =
+    (codes "version", value.Text zone.notes.version) ∷ (codes "short", value.Text zone.notes.short)
+    ∷ (codes "description", value.Text zone.notes.description) ∷ (codes "target", value.Text (zone_target_text zone.target))
+    ∷ (codes "services", value.Texts zone.rules.services) ∷ (codes "ports", value.Rows (map port_row zone.rules.ports))
+    ∷ (codes "protocols", value.Texts (map proto_text zone.rules.protocols))
+    ∷ (codes "source_ports", value.Rows (map port_row zone.rules.source_ports)) ∷ (codes "icmp_blocks", value.Texts zone.rules.icmp_blocks)
+    ∷ (codes "icmp_block_inversion", value.Bool zone.inversion) ∷ (codes "masquerade", value.Bool zone.rules.masquerade)
+    ∷ (codes "forward_ports", value.Rows (map forward_row zone.rules.forwards)) ∷ (codes "rules_str", value.Texts (map canon zone.rules.rich))
+    ∷ (codes "interfaces", value.Texts zone.interfaces) ∷ (codes "sources", value.Texts (map source_text zone.sources))
+    ∷ (codes "forward", value.Bool zone.forward) ∷ []
 
-unfoldable pub zone_dict : Zone → Dict
-zone_dict zone = record {
-  fields =
-      notes_fields zone.notes ++ (codes "target", value.Text (zone_target_text zone.target)) ∷ []
-      ++ first_fields zone.rules ++ (codes "icmp_block_inversion", value.Bool zone.inversion) ∷ []
-      ++ last_fields owner.Zone zone.rules ++ (codes "interfaces", value.Texts zone.interfaces) ∷ []
-      ++ (codes "sources", value.Texts (map source_text zone.sources)) ∷ [] ++ (codes "forward", value.Bool zone.forward) ∷ [];
-}
+unfoldable pub policy_fields : Policy → Fields
+policy_fields policy =
+    (codes "version", value.Text policy.notes.version) ∷ (codes "short", value.Text policy.notes.short)
+    ∷ (codes "description", value.Text policy.notes.description) ∷ (codes "target", value.Text (policy_target_text policy.target))
+    ∷ (codes "priority", value.Int policy.priority) ∷ (codes "ingress_zones", value.Texts policy.ingress)
+    ∷ (codes "egress_zones", value.Texts policy.egress) ∷ (codes "services", value.Texts policy.rules.services)
+    ∷ (codes "ports", value.Rows (map port_row policy.rules.ports)) ∷ (codes "protocols", value.Texts (map proto_text policy.rules.protocols))
+    ∷ (codes "source_ports", value.Rows (map port_row policy.rules.source_ports)) ∷ (codes "icmp_blocks", value.Texts policy.rules.icmp_blocks)
+    ∷ (codes "masquerade", value.Bool policy.rules.masquerade) ∷ (codes "forward_ports", value.Rows (map forward_row policy.rules.forwards))
+    ∷ (codes "rich_rules", value.Texts (map canon policy.rules.rich)) ∷ []
 
-unfoldable pub policy_dict : Policy → Dict
-policy_dict policy = record {
-  fields =
-      notes_fields policy.notes ++ (codes "target", value.Text (policy_target_text policy.target)) ∷ []
-      ++ (codes "priority", value.Int policy.priority) ∷ [] ++ (codes "ingress_zones", value.Texts policy.ingress) ∷ []
-      ++ (codes "egress_zones", value.Texts policy.egress) ∷ [] ++ first_fields policy.rules ++ last_fields owner.Policy policy.rules;
-}
+abbrev pub zone_dict : Zone → Dict
+zone_dict zone = record { fields = zone_fields zone }
+
+abbrev pub policy_dict : Policy → Dict
+policy_dict policy = record { fields = policy_fields policy }

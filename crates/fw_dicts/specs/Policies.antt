@@ -49,9 +49,13 @@ abbrev pub unless_fault : Policy → Option Fault → Result Policy Refusal
 unless_fault policy None = Ok policy
 unless_fault policy (Some fault) = refused (code_of fault) (fault_subject policy fault)
 
--- a policy that keeps the rules on policies, beside these zones; or its first fault
+-- the first of the rules on policies that a policy breaks, beside these zones
+unfoldable pub fault_of : List Zone → Policy → Option Fault
+fault_of zones policy = first_fault policy zones
+
+-- a policy that breaks none of these rules, or its first fault
 unfoldable pub allowed : List Zone → Policy → Result Policy Refusal
-allowed zones policy = unless_fault policy (first_fault policy zones)
+allowed zones policy = unless_fault policy (fault_of zones policy)
 
 -- the policy that a dict makes of a policy, or the first refusal. An absent key leaves what there is. Zones, services and ipsets are
 -- those of the configuration.

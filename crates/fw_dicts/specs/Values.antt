@@ -64,5 +64,5 @@ names_or names None = names
 names_or names (Some others) = each_once others
 
 -- the names under a key
-abbrev pub names_told : Fields → (key : List ℕ) → (names : List (List ℕ)) → List (List ℕ)
+unfoldable pub names_told : Fields → (key : List ℕ) → (names : List (List ℕ)) → List (List ℕ)
 names_told fields key names = names_or names (texts_at fields key)

@@ -1,111 +1,99 @@
 //! Zones and policies as dicts that hold every key.
-ghost use Rattle.std.specs.Prelude.{◌≡◌, [], ◌∷◌, ◌++◌, codes, map, IfOk, OnOk};
+ghost use Rattle.std.specs.Prelude.{◌≡◌, map, IfOk, OnOk};
 ghost use Rattle.fw_addr.specs.Protocols.{proto_text};
-ghost use Rattle.fw_dicts.specs.Lists.{row_key};
-ghost use Rattle.fw_dicts.specs.Dicts.{first_fields, forward_row, last_fields, notes_fields, policy_dict, port_row, zone_dict};
+ghost use Rattle.fw_dicts.specs.Dicts.{forward_row, policy_dict, policy_fields, port_row, with_field, with_fields, zone_dict, zone_fields};
 ghost use Rattle.fw_rich.specs.Canonical.{canon};
 ghost use Rattle.fw_zone_edits.specs.Entries.{source_text};
 
-use super::lists::{RowList, TextList, row_key, text_key};
-use super::shape::Owner;
 use super::targets::{policy_target_text, zone_target_text};
 use fw_addr::{Iface, Proto, print_proto};
 use fw_base::{Memory, Seq, Text, TryCopy};
 use fw_calls::{Dict, DictField};
-use fw_model::{Binding, Forward, Notes, Policy, Port, Rich, Rules, Zone};
+use fw_model::{Binding, Forward, Policy, Port, Rich, Zone};
 use fw_rich::print_rich;
 use fw_zone_edits::{source_text, to_address_text, to_port_text};
 use std::alloc::Global;
 
 /// All settings of a zone, in the order of the keys.
-#[tactic(auto, unfolding(crate::specs::Dicts::zone_dict))]
+#[tactic(auto, using(crate::proofs::Fields::all_fields))]
 pub fn zone_dict(alloc: Global, zone: &Zone) -> Result<Dict, Memory>
     ensures { IfOk result (λ dict. dict ≡ zone_dict zone.now) }
 {
     let mut fields = Seq::new(alloc);
-    push_notes(alloc, &mut fields, &zone.notes)?;
-    push_text(alloc, &mut fields, "target", zone_target_text(zone.target))?;
-    push_first(alloc, &mut fields, &zone.rules)?;
-    push(alloc, &mut fields, "icmp_block_inversion", DictField::Bool(zone.inversion))?;
-    push_last(alloc, &mut fields, Owner::Zone, &zone.rules)?;
-    let interfaces = interface_texts(alloc, zone.interfaces.as_slice())?;
-    push(alloc, &mut fields, "interfaces", DictField::Texts(interfaces))?;
-    let sources = source_texts(alloc, zone.sources.as_slice())?;
-    push(alloc, &mut fields, "sources", DictField::Texts(sources))?;
-    push(alloc, &mut fields, "forward", DictField::Bool(zone.forward))?;
+    push_zone(alloc, &mut fields, zone)?;
     Ok(Dict { fields })
 }
 
 /// All settings of a policy, in the order of the keys.
-#[tactic(auto, unfolding(crate::specs::Dicts::policy_dict))]
+#[tactic(auto, using(crate::proofs::Fields::all_fields))]
 pub fn policy_dict(alloc: Global, policy: &Policy) -> Result<Dict, Memory>
     ensures { IfOk result (λ dict. dict ≡ policy_dict policy.now) }
 {
     let mut fields = Seq::new(alloc);
-    push_notes(alloc, &mut fields, &policy.notes)?;
-    push_text(alloc, &mut fields, "target", policy_target_text(policy.target))?;
-    push(alloc, &mut fields, "priority", DictField::Int(policy.priority))?;
-    push_texts(alloc, &mut fields, "ingress_zones", &policy.ingress)?;
-    push_texts(alloc, &mut fields, "egress_zones", &policy.egress)?;
-    push_first(alloc, &mut fields, &policy.rules)?;
-    push_last(alloc, &mut fields, Owner::Policy, &policy.rules)?;
+    push_policy(alloc, &mut fields, policy)?;
     Ok(Dict { fields })
 }
 
-#[tactic(auto, unfolding(crate::specs::Dicts::notes_fields))]
-fn push_notes(
+#[tactic(auto, unfolding(crate::specs::Dicts::zone_fields))]
+fn push_zone(
     alloc: Global,
     fields: &mut Seq<(Text, DictField)>,
-    notes: &Notes,
+    zone: &Zone,
 ) -> Result<(), Memory>
-    ensures { OnOk result (fields.new ≡ fields.old ++ notes_fields notes.now) }
+    ensures { OnOk result (fields.new ≡ with_fields fields.old (zone_fields zone.now)) }
 {
-    push_text(alloc, fields, "version", notes.version.as_str())?;
-    push_text(alloc, fields, "short", notes.short.as_str())?;
-    push_text(alloc, fields, "description", notes.description.as_str())
+    push_text(alloc, fields, "version", zone.notes.version.as_str())?;
+    push_text(alloc, fields, "short", zone.notes.short.as_str())?;
+    push_text(alloc, fields, "description", zone.notes.description.as_str())?;
+    push_text(alloc, fields, "target", zone_target_text(zone.target))?;
+    push_texts(alloc, fields, "services", &zone.rules.services)?;
+    push_ports(alloc, fields, "ports", zone.rules.ports.as_slice())?;
+    push_protocols(alloc, fields, "protocols", zone.rules.protocols.as_slice())?;
+    push_ports(alloc, fields, "source_ports", zone.rules.source_ports.as_slice())?;
+    push_texts(alloc, fields, "icmp_blocks", &zone.rules.icmp_blocks)?;
+    push_flag(alloc, fields, "icmp_block_inversion", zone.inversion)?;
+    push_flag(alloc, fields, "masquerade", zone.rules.masquerade)?;
+    push_forwards(alloc, fields, "forward_ports", zone.rules.forwards.as_slice())?;
+    push_rules(alloc, fields, "rules_str", zone.rules.rich.as_slice())?;
+    push_interfaces(alloc, fields, "interfaces", zone.interfaces.as_slice())?;
+    push_sources(alloc, fields, "sources", zone.sources.as_slice())?;
+    push_flag(alloc, fields, "forward", zone.forward)
 }
 
-/// The settings that stand before masquerade.
-#[tactic(auto, unfolding(crate::specs::Dicts::first_fields))]
-fn push_first(
+#[tactic(auto, unfolding(crate::specs::Dicts::policy_fields))]
+fn push_policy(
     alloc: Global,
     fields: &mut Seq<(Text, DictField)>,
-    rules: &Rules,
+    policy: &Policy,
 ) -> Result<(), Memory>
-    ensures { OnOk result (fields.new ≡ fields.old ++ first_fields rules.now) }
+    ensures { OnOk result (fields.new ≡ with_fields fields.old (policy_fields policy.now)) }
 {
-    push_texts(alloc, fields, "services", &rules.services)?;
-    push_ports(alloc, fields, RowList::Ports, rules.ports.as_slice())?;
-    push_protocols(alloc, fields, rules.protocols.as_slice())?;
-    push_ports(alloc, fields, RowList::SourcePorts, rules.source_ports.as_slice())?;
-    push_texts(alloc, fields, "icmp_blocks", &rules.icmp_blocks)
-}
-
-/// Masquerade, and the settings behind it.
-#[tactic(auto, unfolding(crate::specs::Dicts::last_fields))]
-fn push_last(
-    alloc: Global,
-    fields: &mut Seq<(Text, DictField)>,
-    owner: Owner,
-    rules: &Rules,
-) -> Result<(), Memory>
-    ensures { OnOk result (fields.new ≡ fields.old ++ last_fields owner rules.now) }
-{
-    push(alloc, fields, "masquerade", DictField::Bool(rules.masquerade))?;
-    let forwards = forward_rows(alloc, rules.forwards.as_slice())?;
-    push(alloc, fields, "forward_ports", DictField::Rows(forwards))?;
-    let rich = rule_texts(alloc, rules.rich.as_slice())?;
-    push(alloc, fields, text_key(owner, TextList::RichRules), DictField::Texts(rich))
+    push_text(alloc, fields, "version", policy.notes.version.as_str())?;
+    push_text(alloc, fields, "short", policy.notes.short.as_str())?;
+    push_text(alloc, fields, "description", policy.notes.description.as_str())?;
+    push_text(alloc, fields, "target", policy_target_text(policy.target))?;
+    push_number(alloc, fields, "priority", policy.priority)?;
+    push_texts(alloc, fields, "ingress_zones", &policy.ingress)?;
+    push_texts(alloc, fields, "egress_zones", &policy.egress)?;
+    push_texts(alloc, fields, "services", &policy.rules.services)?;
+    push_ports(alloc, fields, "ports", policy.rules.ports.as_slice())?;
+    push_protocols(alloc, fields, "protocols", policy.rules.protocols.as_slice())?;
+    push_ports(alloc, fields, "source_ports", policy.rules.source_ports.as_slice())?;
+    push_texts(alloc, fields, "icmp_blocks", &policy.rules.icmp_blocks)?;
+    push_flag(alloc, fields, "masquerade", policy.rules.masquerade)?;
+    push_forwards(alloc, fields, "forward_ports", policy.rules.forwards.as_slice())?;
+    push_rules(alloc, fields, "rich_rules", policy.rules.rich.as_slice())
 }
 
 /// Appends a key with its value.
+#[tactic(auto, unfolding(crate::specs::Dicts::with_field))]
 fn push(
     alloc: Global,
     fields: &mut Seq<(Text, DictField)>,
     key: &str,
     value: DictField,
 ) -> Result<(), Memory>
-    ensures { OnOk result (fields.new ≡ fields.old ++ (key.now, value) ∷ []) }
+    ensures { OnOk result (fields.new ≡ with_field fields.old key.now value) }
 {
     let key = Text::of(alloc, key)?;
     fields.push((key, value))
@@ -117,10 +105,10 @@ fn push_text(
     key: &str,
     text: &str,
 ) -> Result<(), Memory>
-    ensures { OnOk result (fields.new ≡ fields.old ++ (key.now, DictField.Text text.now) ∷ []) }
+    ensures { OnOk result (fields.new ≡ with_field fields.old key.now (DictField.Text text.now)) }
 {
-    let text = Text::of(alloc, text)?;
-    push(alloc, fields, key, DictField::Text(text))
+    let value = Text::of(alloc, text)?;
+    push(alloc, fields, key, DictField::Text(value))
 }
 
 fn push_texts(
@@ -129,33 +117,104 @@ fn push_texts(
     key: &str,
     texts: &Seq<Text>,
 ) -> Result<(), Memory>
-    ensures { OnOk result (fields.new ≡ fields.old ++ (key.now, DictField.Texts texts.now) ∷ []) }
+    ensures { OnOk result (fields.new ≡ with_field fields.old key.now (DictField.Texts texts.now)) }
 {
-    let texts = texts.copy(alloc)?;
-    push(alloc, fields, key, DictField::Texts(texts))
+    let value = texts.copy(alloc)?;
+    push(alloc, fields, key, DictField::Texts(value))
 }
 
 fn push_ports(
     alloc: Global,
     fields: &mut Seq<(Text, DictField)>,
-    list: RowList,
+    key: &str,
     ports: &[Port],
 ) -> Result<(), Memory>
-    ensures { OnOk result (fields.new ≡ fields.old ++ (row_key list, DictField.Rows (map port_row ports.now)) ∷ []) }
+    ensures { OnOk result (fields.new ≡ with_field fields.old key.now (DictField.Rows (map port_row ports.now))) }
 {
-    let rows = port_rows(alloc, ports)?;
-    push(alloc, fields, row_key(list), DictField::Rows(rows))
+    let value = port_rows(alloc, ports)?;
+    push(alloc, fields, key, DictField::Rows(value))
+}
+
+fn push_forwards(
+    alloc: Global,
+    fields: &mut Seq<(Text, DictField)>,
+    key: &str,
+    forwards: &[Forward],
+) -> Result<(), Memory>
+    ensures { OnOk result (fields.new ≡ with_field fields.old key.now (DictField.Rows (map forward_row forwards.now))) }
+{
+    let value = forward_rows(alloc, forwards)?;
+    push(alloc, fields, key, DictField::Rows(value))
 }
 
 fn push_protocols(
     alloc: Global,
     fields: &mut Seq<(Text, DictField)>,
+    key: &str,
     protocols: &[Proto],
 ) -> Result<(), Memory>
-    ensures { OnOk result (fields.new ≡ fields.old ++ (codes "protocols", DictField.Texts (map proto_text protocols.now)) ∷ []) }
+    ensures { OnOk result (fields.new ≡ with_field fields.old key.now (DictField.Texts (map proto_text protocols.now))) }
 {
-    let texts = protocol_texts(alloc, protocols)?;
-    push(alloc, fields, "protocols", DictField::Texts(texts))
+    let value = protocol_texts(alloc, protocols)?;
+    push(alloc, fields, key, DictField::Texts(value))
+}
+
+fn push_rules(
+    alloc: Global,
+    fields: &mut Seq<(Text, DictField)>,
+    key: &str,
+    rules: &[Rich],
+) -> Result<(), Memory>
+    ensures { OnOk result (fields.new ≡ with_field fields.old key.now (DictField.Texts (map canon rules.now))) }
+{
+    let value = rule_texts(alloc, rules)?;
+    push(alloc, fields, key, DictField::Texts(value))
+}
+
+fn push_interfaces(
+    alloc: Global,
+    fields: &mut Seq<(Text, DictField)>,
+    key: &str,
+    interfaces: &[Iface],
+) -> Result<(), Memory>
+    ensures { OnOk result (fields.new ≡ with_field fields.old key.now (DictField.Texts interfaces.now)) }
+{
+    let value = interface_texts(alloc, interfaces)?;
+    push(alloc, fields, key, DictField::Texts(value))
+}
+
+fn push_sources(
+    alloc: Global,
+    fields: &mut Seq<(Text, DictField)>,
+    key: &str,
+    sources: &[Binding],
+) -> Result<(), Memory>
+    ensures { OnOk result (fields.new ≡ with_field fields.old key.now (DictField.Texts (map source_text sources.now))) }
+{
+    let value = source_texts(alloc, sources)?;
+    push(alloc, fields, key, DictField::Texts(value))
+}
+
+fn push_flag(
+    alloc: Global,
+    fields: &mut Seq<(Text, DictField)>,
+    key: &str,
+    flag: bool,
+) -> Result<(), Memory>
+    ensures { OnOk result (fields.new ≡ with_field fields.old key.now (DictField.Bool flag)) }
+{
+    push(alloc, fields, key, DictField::Bool(flag))
+}
+
+fn push_number(
+    alloc: Global,
+    fields: &mut Seq<(Text, DictField)>,
+    key: &str,
+    number: i32,
+) -> Result<(), Memory>
+    ensures { OnOk result (fields.new ≡ with_field fields.old key.now (DictField.Int number)) }
+{
+    push(alloc, fields, key, DictField::Int(number))
 }
 
 fn port_rows(alloc: Global, ports: &[Port]) -> Result<Seq<Seq<Text>>, Memory>

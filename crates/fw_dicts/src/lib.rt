@@ -12,7 +12,5 @@ mod values;
 mod zone;
 
 pub use dict::{policy_dict, zone_dict};
-pub use lists::{RowList, TextList};
 pub use policy::{new_policy, read_policy};
-pub use shape::{Owner, Shape};
 pub use zone::{new_zone, read_zone};

@@ -2,7 +2,7 @@
 ghost use Rattle.std.specs.Prelude.{◌≡◌, [], get_or, Some, IfOk};
 ghost use Rattle.std.specs.Fmt.{signed_decimal};
 ghost use Rattle.fw_act.specs.Acts.{Reads};
-ghost use Rattle.fw_dicts.specs.Policies.{allowed, fault_subject, new_policy, policy_told, unless_fault, with_settings};
+ghost use Rattle.fw_dicts.specs.Policies.{allowed, fault_of, fault_subject, new_policy, policy_told, unless_fault, with_settings};
 
 use super::keys::require_known;
 use super::lists::read_rules;
@@ -71,7 +71,22 @@ fn with_settings(
 fn allowed(alloc: Global, zones: &[Zone], policy: Policy) -> Result<Policy, Stop>
     ensures { Reads result (allowed zones.now policy) }
 {
-    match first_fault(&policy, zones) {
+    let fault = fault_of(zones, &policy);
+    unless_fault(alloc, policy, fault)
+}
+
+/// The first of the rules on policies that a policy breaks, beside these zones.
+#[tactic(auto, unfolding(crate::specs::Policies::fault_of))]
+fn fault_of(zones: &[Zone], policy: &Policy) -> Option<Fault>
+    ensures { result ≡ fault_of zones.now policy.now }
+{
+    first_fault(policy, zones)
+}
+
+fn unless_fault(alloc: Global, policy: Policy, fault: Option<Fault>) -> Result<Policy, Stop>
+    ensures { Reads result (unless_fault policy fault) }
+{
+    match fault {
         Some(fault) => {
             let subject = fault_subject(alloc, &policy, fault)?;
             Err(Stop::Refused(refuse(alloc, fault.code(), subject.as_str())?))

@@ -112,6 +112,7 @@ pub fn number_or(number: Option<i32>, other: i32) -> i32
 }
 
 /// The names under a key, each once.
+#[tactic(auto, unfolding(crate::specs::Values::names_told))]
 pub fn read_names(
     alloc: Global,
     fields: &[(Text, DictField)],
