@@ -57,14 +57,20 @@ fault_of zones policy = first_fault policy zones
 unfoldable pub allowed : List Zone → Policy → Result Policy Refusal
 allowed zones policy = unless_fault policy (fault_of zones policy)
 
--- the policy that a dict makes of a policy, or the first refusal. An absent key leaves what there is. Zones, services and ipsets are
--- those of the configuration.
-unfoldable pub policy_told : Config → Policy → Dict → Result Policy Refusal
-policy_told config policy dict = do
+-- the policy that a dict says, whether or not it keeps the rules on policies; or the first refusal. An absent key leaves what there is.
+-- Services and ipsets are those of the configuration.
+unfoldable pub policy_said : Config → Policy → Dict → Result Policy Refusal
+policy_said config policy dict = do
   known ← known_keys owner.Policy dict.fields
   target ← policy_target_told policy.target (text_at dict.fields (codes "target"))
   rules ← rules_told config owner.Policy dict.fields policy.rules
-  allowed config.zones (with_settings dict.fields policy target rules)
+  Ok (with_settings dict.fields policy target rules)
+
+-- the policy that a dict makes of a policy, beside the zones of the configuration; or the first refusal
+unfoldable pub policy_told : Config → Policy → Dict → Result Policy Refusal
+policy_told config policy dict = do
+  said ← policy_said config policy dict
+  allowed config.zones said
 
 -- a policy before a dict says its settings
 abbrev pub new_policy : (name : List ℕ) → Policy

@@ -2,7 +2,7 @@
 ghost use Rattle.std.specs.Prelude.{◌≡◌, [], get_or, Some, IfOk};
 ghost use Rattle.std.specs.Fmt.{signed_decimal};
 ghost use Rattle.fw_act.specs.Acts.{Reads};
-ghost use Rattle.fw_dicts.specs.Policies.{allowed, fault_of, fault_subject, new_policy, policy_told, unless_fault, with_settings};
+ghost use Rattle.fw_dicts.specs.Policies.{allowed, fault_of, fault_subject, new_policy, policy_said, policy_told, unless_fault, with_settings};
 
 use super::keys::require_known;
 use super::lists::read_rules;
@@ -30,13 +30,27 @@ pub fn read_policy(
 ) -> Result<Policy, Stop>
     ensures { Reads result (policy_told config.now policy.now dict.now) }
 {
+    let said = read_said(alloc, config, policy, dict)?;
+    allowed(alloc, config.zones.as_slice(), said)
+}
+
+/// The policy that a dict says, whether or not it keeps the rules on policies.
+#[tactic(auto, unfolding(crate::specs::Policies::policy_said))]
+fn read_said(
+    alloc: Global,
+    config: &Config,
+    policy: &Policy,
+    dict: &Dict,
+) -> Result<Policy, Stop>
+    ensures { Reads result (policy_said config.now policy.now dict.now) }
+{
     let fields = dict.fields.as_slice();
     require_known(alloc, Owner::Policy, fields)?;
     let target = read_policy_target(alloc, text_at(fields, "target"), policy.target)?;
     let mut rules = policy.rules.copy(alloc)?;
     read_rules(alloc, config, Owner::Policy, fields, &mut rules)?;
     let told = with_settings(alloc, fields, policy, target, rules)?;
-    allowed(alloc, config.zones.as_slice(), told)
+    Ok(told)
 }
 
 /// A policy with other settings.

@@ -1,0 +1,5 @@
+pub mod Asking
+pub mod Policies
+pub mod Setting
+pub mod Timers
+pub mod Zones
