@@ -1,6 +1,6 @@
 -- What a dict makes of a zone (firewalld.dbus(5), `setZoneSettings2`, `addZone2` and `update2`; the order of the refusals is this
 -- project's own).
-use Rattle.std.specs.Prelude.{ℕ, false, codes, List, [], Result, Ok}
+use Rattle.std.specs.Prelude.{ℕ, false, codes, List, [], ◌++◌, drop, take, Result, Ok}
 use Rattle.std.specs.Option.{unwrap_or}
 use Rattle.fw_act.specs.Acts.{◌>>=◌}
 use Rattle.fw_calls.specs.declared.dict.Dict.{Dict}
@@ -37,6 +37,10 @@ zone_told config others zone dict = do
   rules ← rules_told config owner.Zone dict.fields zone.rules
   zone ← entries_told config.ipsets others dict.fields kind.Interface (with_settings dict.fields zone target rules)
   entries_told config.ipsets others dict.fields kind.Source zone
+
+-- the zones but the one at a place
+abbrev pub others : List Zone → (place : ℕ) → List Zone
+others zones place = take place zones ++ drop (suc place) zones
 
 -- settings of which there is none
 abbrev pub no_rules : Rules

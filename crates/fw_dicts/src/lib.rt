@@ -13,4 +13,4 @@ mod zone;
 
 pub use dict::{policy_dict, zone_dict};
 pub use policy::{new_policy, read_policy};
-pub use zone::{new_zone, read_zone};
+pub use zone::{new_zone, read_zone, read_zone_at};

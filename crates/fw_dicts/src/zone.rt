@@ -1,7 +1,7 @@
 //! What a dict makes of a zone.
-ghost use Rattle.std.specs.Prelude.{◌≡◌, [], ◌++◌, IfOk};
+ghost use Rattle.std.specs.Prelude.{◌≡◌, ◌<◌, [], ◌++◌, length, IfOk};
 ghost use Rattle.fw_act.specs.Acts.{Reads};
-ghost use Rattle.fw_dicts.specs.Zones.{new_zone, no_rules, with_settings, zone_told};
+ghost use Rattle.fw_dicts.specs.Zones.{new_zone, no_rules, others, with_settings, zone_told};
 
 use super::bindings::read_entries;
 use super::keys::require_known;
@@ -41,6 +41,23 @@ pub fn read_zone(
     read_entries(alloc, ipsets, before, behind, fields, BindingKind::Interface, &mut told)?;
     read_entries(alloc, ipsets, before, behind, fields, BindingKind::Source, &mut told)?;
     Ok(told)
+}
+
+/// What a dict makes of the zone at a place of the configuration, beside its other zones (`read_zone`).
+pub fn read_zone_at(
+    alloc: Global,
+    config: &Config,
+    place: usize,
+    zone: &Zone,
+    dict: &Dict,
+) -> Result<Zone, Stop>
+    requires { place < length config.now.zones }
+    ensures { Reads result (zone_told config.now (others config.now.zones place) zone.now dict.now) }
+{
+    let zones = config.zones.as_slice();
+    let before = &zones[..place];
+    let behind = &zones[place + 1..];
+    read_zone(alloc, config, before, behind, zone, dict)
 }
 
 /// A zone with other settings; its bindings are as they were.

@@ -1,5 +1,5 @@
 -- `setZoneSettings2` (firewalld.dbus(5), interface `org.fedoraproject.FirewallD1.zone`).
-use Rattle.std.specs.Prelude.{ℕ, List, [], ◌∷◌, ◌++◌, drop, take, Result, Ok, slice_set}
+use Rattle.std.specs.Prelude.{ℕ, List, [], ◌∷◌, Result, Ok, slice_set}
 use Rattle.fw_act.specs.Acts.{Answered, ◌>>=◌, changed}
 use Rattle.fw_calls.specs.declared.dict.Dict.{Dict}
 use Rattle.fw_calls.specs.declared.reply.Refusal.{Refusal}
@@ -7,16 +7,12 @@ use Rattle.fw_calls.specs.declared.reply.Reply.TheVariants as reply
 use Rattle.fw_calls.specs.declared.signal.Arg.TheVariants as arg
 use Rattle.fw_calls.specs.declared.signal.Signal.{Signal}
 use Rattle.fw_calls.specs.declared.signal_kind.SignalKind.TheVariants as signal
-use Rattle.fw_dicts.specs.Zones.{zone_told}
+use Rattle.fw_dicts.specs.Zones.{others, zone_told}
 use Rattle.fw_model.specs.declared.zone.Zone.{Zone}
 use Rattle.fw_settings.specs.Parts.{with_timers, with_zones}
 use Rattle.fw_settings.specs.declared.settings.Settings.{Settings}
 use Rattle.fw_zone_members.specs.Reading.{look_up}
 use Rattle.fw_policy_members.specs.Timers.{kept_timers}
-
--- the zones but the one at a place
-abbrev pub others : List Zone → (place : ℕ) → List Zone
-others zones place = take place zones ++ drop (suc place) zones
 
 -- a zone has other settings
 abbrev pub zone_updated : Zone → Signal

@@ -9,5 +9,6 @@ mod timers;
 mod zone;
 
 pub use asking::{active_policies_member, policies_member, policy_settings_member};
+pub use find::{FoundPolicy, find_policy};
 pub use setting::set_policy_settings_member;
 pub use zone::set_zone_settings_member;

@@ -1,16 +1,15 @@
 //! All settings of a zone are set.
 ghost use Rattle.std.specs.Prelude.{◌≡◌, ◌<◌, [], ◌∷◌, length, slice_set, IfOk, OnErr};
-ghost use Rattle.fw_act.specs.Acts.{Acts, Reads};
+ghost use Rattle.fw_act.specs.Acts.{Acts};
 ghost use Rattle.fw_calls.specs.declared.reply.Reply.TheVariants as reply;
-ghost use Rattle.fw_dicts.specs.Zones.{zone_told};
-ghost use Rattle.fw_policy_members.specs.Zones.{others, set_zone_settings_member, zone_updated};
+ghost use Rattle.fw_policy_members.specs.Zones.{set_zone_settings_member, zone_updated};
 
 use super::timers::kept_timers;
 use fw_act::{Answer, Stop, told};
 use fw_base::{Memory, Seq, TryCopy};
 use fw_calls::{Arg, Dict, Reply, Signal, SignalKind};
-use fw_dicts::read_zone;
-use fw_model::{Config, Zone};
+use fw_dicts::read_zone_at;
+use fw_model::Zone;
 use fw_settings::Settings;
 use fw_zone_members::find_zone;
 use std::alloc::Global;
@@ -30,30 +29,13 @@ pub fn set_zone_settings_member(
     ensures err { OnErr result (settings.new ≡ settings.old) }
 {
     let found = find_zone(alloc, &settings.runtime.config, zone)?;
-    let told = read_beside(alloc, &settings.runtime.config, found.place, found.zone, dict)?;
+    let told = read_zone_at(alloc, &settings.runtime.config, found.place, found.zone, dict)?;
     let answer = updated(alloc, &told)?;
     let kept = kept_timers(alloc, &told, settings.timers.as_slice())?;
     let place = found.place;
     settings.timers = kept;
     put(&mut settings.runtime.config.zones, place, told);
     Ok(answer)
-}
-
-/// What a dict makes of the zone at a place, beside the other zones.
-fn read_beside(
-    alloc: Global,
-    config: &Config,
-    place: usize,
-    zone: &Zone,
-    dict: &Dict,
-) -> Result<Zone, Stop>
-    requires { place < length config.now.zones }
-    ensures { Reads result (zone_told config.now (others config.now.zones place) zone.now dict.now) }
-{
-    let zones = config.zones.as_slice();
-    let before = &zones[..place];
-    let behind = &zones[place + 1..];
-    read_zone(alloc, config, before, behind, zone, dict)
 }
 
 /// What is told of a zone that has other settings.

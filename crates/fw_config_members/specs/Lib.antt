@@ -1,0 +1,5 @@
+pub mod Adding
+pub mod Asking
+pub mod Objects
+pub mod Policies
+pub mod Zones
