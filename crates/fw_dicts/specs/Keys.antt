@@ -97,5 +97,5 @@ without_unknown None = Ok tt
 without_unknown (Some key) = refused code.InvalidValue key
 
 -- all keys have to be known
-abbrev pub known_keys : Owner → Fields → Result (Unit {0}) Refusal
+unfoldable pub known_keys : Owner → Fields → Result (Unit {0}) Refusal
 known_keys owner fields = without_unknown (first_unknown owner fields)

@@ -117,5 +117,5 @@ lists_told config owner fields rules = do
   texts_told config owner fields texts.RichRules rules
 
 -- all settings that zones and policies have alike
-abbrev pub rules_told : Config → Owner → Fields → Rules → Result Rules Refusal
+unfoldable pub rules_told : Config → Owner → Fields → Rules → Result Rules Refusal
 rules_told config owner fields rules = lists_told config owner fields (with_masquerade fields rules)

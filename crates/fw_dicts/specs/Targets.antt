@@ -35,10 +35,10 @@ policy_target_text policy.Reject = codes "REJECT"
 policy_target_text policy.Drop = codes "DROP"
 
 -- the target that a dict says, or its refusal; an absent one stays
-abbrev pub zone_target_told : ZoneTarget → Option (List ℕ) → Result ZoneTarget Refusal
+unfoldable pub zone_target_told : ZoneTarget → Option (List ℕ) → Result ZoneTarget Refusal
 zone_target_told target None = Ok target
 zone_target_told target (Some text) = found_or code.InvalidTarget text (zone_target text)
 
-abbrev pub policy_target_told : PolicyTarget → Option (List ℕ) → Result PolicyTarget Refusal
+unfoldable pub policy_target_told : PolicyTarget → Option (List ℕ) → Result PolicyTarget Refusal
 policy_target_told target None = Ok target
 policy_target_told target (Some text) = found_or code.InvalidTarget text (policy_target text)

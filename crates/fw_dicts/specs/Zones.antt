@@ -1,6 +1,6 @@
 -- What a dict makes of a zone (firewalld.dbus(5), `setZoneSettings2`, `addZone2` and `update2`; the order of the refusals is this
 -- project's own).
-use Rattle.std.specs.Prelude.{ℕ, false, codes, List, [], ◌++◌, drop, take, Result, Ok}
+use Rattle.std.specs.Prelude.{ℕ, suc, false, codes, List, [], ◌++◌, drop, take, Result, Ok}
 use Rattle.std.specs.Option.{unwrap_or}
 use Rattle.fw_act.specs.Acts.{◌>>=◌}
 use Rattle.fw_calls.specs.declared.dict.Dict.{Dict}

@@ -15,6 +15,7 @@ use std::alloc::Global;
 
 /// Refuses a dict with an unknown key, by the least of them in byte order. A key is unknown, too, whose value is of another type; of
 /// equal keys the first alone counts.
+#[tactic(auto, unfolding(crate::specs::Keys::known_keys))]
 pub fn require_known(alloc: Global, owner: Owner, fields: &[(Text, DictField)]) -> Result<(), Stop>
     ensures { Reads result (known_keys owner fields.now) }
 {

@@ -7,7 +7,7 @@ ghost use Rattle.fw_dicts.specs.Lists.{cell, lists_told, rich_key, row_key, row_
 use super::shape::Owner;
 use super::values::{flag_at, flag_or, rows_at, texts_at};
 use fw_act::Stop;
-use fw_base::{Memory, Seq, Text};
+use fw_base::{Memory, Seq, Text, TryCopy};
 use fw_calls::DictField;
 use fw_model::{Config, Rules, Setting};
 use fw_zone::add;
@@ -34,19 +34,22 @@ pub enum RowList {
     ForwardPorts,
 }
 
-/// Takes what a dict says of the settings that zones and policies have alike; repeated elements are kept once, and the lists of
-/// absent keys stay. Services and ipsets are those of the configuration. Refuses the first element that is none, by key order.
+/// What a dict makes of the settings that zones and policies have alike; repeated elements are kept once, and the lists of absent keys
+/// stay. Services and ipsets are those of the configuration. Refuses the first element that is none, by key order.
+#[tactic(auto, unfolding(crate::specs::Lists::rules_told))]
 pub fn read_rules(
     alloc: Global,
     config: &Config,
     owner: Owner,
     fields: &[(Text, DictField)],
-    rules: &mut Rules,
-) -> Result<(), Stop>
-    ensures { Makes rules.new result (rules_told config.now owner fields.now rules.old) }
+    rules: &Rules,
+) -> Result<Rules, Stop>
+    ensures { Reads result (rules_told config.now owner fields.now rules.now) }
 {
-    set_masquerade(fields, rules);
-    read_lists(alloc, config, owner, fields, rules)
+    let mut told = rules.copy(alloc)?;
+    set_masquerade(fields, &mut told);
+    read_lists(alloc, config, owner, fields, &mut told)?;
+    Ok(told)
 }
 
 fn set_masquerade(fields: &[(Text, DictField)], rules: &mut Rules)

@@ -47,8 +47,7 @@ fn read_said(
     let fields = dict.fields.as_slice();
     require_known(alloc, Owner::Policy, fields)?;
     let target = read_policy_target(alloc, text_at(fields, "target"), policy.target)?;
-    let mut rules = policy.rules.copy(alloc)?;
-    read_rules(alloc, config, Owner::Policy, fields, &mut rules)?;
+    let rules = read_rules(alloc, config, Owner::Policy, fields, &policy.rules)?;
     let told = with_settings(alloc, fields, policy, target, rules)?;
     Ok(told)
 }

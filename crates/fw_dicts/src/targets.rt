@@ -9,6 +9,7 @@ use fw_model::{Code, PolicyTarget, ZoneTarget};
 use std::alloc::Global;
 
 /// The target of a zone that a dict says; an absent one stays. Refuses a text that is no target.
+#[tactic(auto, unfolding(crate::specs::Targets::zone_target_told))]
 pub fn read_zone_target(
     alloc: Global,
     text: Option<&str>,
@@ -26,6 +27,7 @@ pub fn read_zone_target(
 }
 
 /// The target of a policy that a dict says, likewise.
+#[tactic(auto, unfolding(crate::specs::Targets::policy_target_told))]
 pub fn read_policy_target(
     alloc: Global,
     text: Option<&str>,

@@ -35,8 +35,7 @@ pub fn read_zone(
     let ipsets = config.ipsets.as_slice();
     require_known(alloc, Owner::Zone, fields)?;
     let target = read_zone_target(alloc, text_at(fields, "target"), zone.target)?;
-    let mut rules = zone.rules.copy(alloc)?;
-    read_rules(alloc, config, Owner::Zone, fields, &mut rules)?;
+    let rules = read_rules(alloc, config, Owner::Zone, fields, &zone.rules)?;
     let mut told = with_settings(alloc, fields, zone, target, rules)?;
     read_entries(alloc, ipsets, before, behind, fields, BindingKind::Interface, &mut told)?;
     read_entries(alloc, ipsets, before, behind, fields, BindingKind::Source, &mut told)?;
