@@ -15,7 +15,7 @@ use std::alloc::Global;
 
 /// `getZoneNames`: the names of the permanent zones, as they are listed.
 pub fn zone_names_member(alloc: Global, settings: &Settings) -> Result<Answer, Memory>
-    ensures { IfOk result (λ answer. zone_names_member settings.now ≡ record { signals = answer.signals; reply = answer.reply; after = settings.now }) }
+    ensures { IfOk result (λ answer. zone_names_member settings.entry.now ≡ record { signals = answer.signals; reply = answer.reply; after = settings.entry.now }) }
 {
     let names = zone_names(alloc, settings.permanent.zones.as_slice())?;
     Ok(replied(alloc, Reply::Texts(names)))
@@ -23,7 +23,7 @@ pub fn zone_names_member(alloc: Global, settings: &Settings) -> Result<Answer, M
 
 /// `getPolicyNames`: the names of the permanent policies, as they are listed.
 pub fn policy_names_member(alloc: Global, settings: &Settings) -> Result<Answer, Memory>
-    ensures { IfOk result (λ answer. policy_names_member settings.now ≡ record { signals = answer.signals; reply = answer.reply; after = settings.now }) }
+    ensures { IfOk result (λ answer. policy_names_member settings.entry.now ≡ record { signals = answer.signals; reply = answer.reply; after = settings.entry.now }) }
 {
     let names = policy_names(alloc, settings.permanent.policies.as_slice())?;
     Ok(replied(alloc, Reply::Texts(names)))
@@ -32,7 +32,7 @@ pub fn policy_names_member(alloc: Global, settings: &Settings) -> Result<Answer,
 /// `getZoneByName`: the path of a permanent zone. Refuses an unknown name, and so an empty one.
 #[tactic(auto, unfolding(crate::specs::Asking::zone_by_name_member))]
 pub fn zone_by_name_member(alloc: Global, settings: &Settings, zone: &str) -> Result<Answer, Stop>
-    ensures { Acts settings.now result (zone_by_name_member settings.now zone.now) }
+    ensures { Acts settings.entry.now result (zone_by_name_member settings.entry.now zone.now) }
 {
     match zone_named(settings.permanent.zones.as_slice(), zone) {
         Some(found) => {
@@ -51,7 +51,7 @@ pub fn policy_by_name_member(
     settings: &Settings,
     policy: &str,
 ) -> Result<Answer, Stop>
-    ensures { Acts settings.now result (policy_by_name_member settings.now policy.now) }
+    ensures { Acts settings.entry.now result (policy_by_name_member settings.entry.now policy.now) }
 {
     let found = find_policy(alloc, &settings.permanent, policy)?;
     let number = number_at(settings.policy_ids.as_slice(), found.place);

@@ -19,10 +19,10 @@ pub fn find_zone<'a>(
     number: u64,
 ) -> Result<FoundZone<'a>, Stop>
     ensures found { MatchResult result
-        (λ found. look_up_zone settings.now number ≡ Ok (record { place = found.place; zone = found.zone.now }))
-        (λ stop. Stops stop (look_up_zone settings.now number)) }
-    ensures within { IfOk result (λ found. found.place < length settings.now.permanent.zones) }
-    ensures numbered { IfOk result (λ found. found.place < length settings.now.zone_ids) }
+        (λ found. look_up_zone settings.entry.now number ≡ Ok (record { place = found.place; zone = found.zone.now }))
+        (λ stop. Stops stop (look_up_zone settings.entry.now number)) }
+    ensures within { IfOk result (λ found. found.place < length settings.entry.now.permanent.zones) }
+    ensures numbered { IfOk result (λ found. found.place < length settings.entry.now.zone_ids) }
 {
     match zone_numbered(settings, number) {
         Some(found) => Ok(found),
@@ -34,10 +34,10 @@ pub fn find_zone<'a>(
 }
 
 fn zone_numbered<'a>(settings: &'a Settings, number: u64) -> Option<FoundZone<'a>>
-    ensures found { MatchOption result (zone_numbered settings.now number ≡ None)
-        (λ found. zone_numbered settings.now number ≡ Some (record { place = found.place; zone = found.zone.now })) }
-    ensures within { IfSome result (λ found. found.place < length settings.now.permanent.zones) }
-    ensures numbered { IfSome result (λ found. found.place < length settings.now.zone_ids) }
+    ensures found { MatchOption result (zone_numbered settings.entry.now number ≡ None)
+        (λ found. zone_numbered settings.entry.now number ≡ Some (record { place = found.place; zone = found.zone.now })) }
+    ensures within { IfSome result (λ found. found.place < length settings.entry.now.permanent.zones) }
+    ensures numbered { IfSome result (λ found. found.place < length settings.entry.now.zone_ids) }
 {
     let place = place_of(settings.zone_ids.as_slice(), number)?;
     let zone = settings.permanent.zones.as_slice().get(place)?;
@@ -52,10 +52,10 @@ pub fn find_policy<'a>(
     number: u64,
 ) -> Result<FoundPolicy<'a>, Stop>
     ensures found { MatchResult result
-        (λ found. look_up_policy settings.now number ≡ Ok (record { place = found.place; policy = found.policy.now }))
-        (λ stop. Stops stop (look_up_policy settings.now number)) }
-    ensures within { IfOk result (λ found. found.place < length settings.now.permanent.policies) }
-    ensures numbered { IfOk result (λ found. found.place < length settings.now.policy_ids) }
+        (λ found. look_up_policy settings.entry.now number ≡ Ok (record { place = found.place; policy = found.policy.now }))
+        (λ stop. Stops stop (look_up_policy settings.entry.now number)) }
+    ensures within { IfOk result (λ found. found.place < length settings.entry.now.permanent.policies) }
+    ensures numbered { IfOk result (λ found. found.place < length settings.entry.now.policy_ids) }
 {
     match policy_numbered(settings, number) {
         Some(found) => Ok(found),
@@ -67,10 +67,10 @@ pub fn find_policy<'a>(
 }
 
 fn policy_numbered<'a>(settings: &'a Settings, number: u64) -> Option<FoundPolicy<'a>>
-    ensures found { MatchOption result (policy_numbered settings.now number ≡ None)
-        (λ found. policy_numbered settings.now number ≡ Some (record { place = found.place; policy = found.policy.now })) }
-    ensures within { IfSome result (λ found. found.place < length settings.now.permanent.policies) }
-    ensures numbered { IfSome result (λ found. found.place < length settings.now.policy_ids) }
+    ensures found { MatchOption result (policy_numbered settings.entry.now number ≡ None)
+        (λ found. policy_numbered settings.entry.now number ≡ Some (record { place = found.place; policy = found.policy.now })) }
+    ensures within { IfSome result (λ found. found.place < length settings.entry.now.permanent.policies) }
+    ensures numbered { IfSome result (λ found. found.place < length settings.entry.now.policy_ids) }
 {
     let place = place_of(settings.policy_ids.as_slice(), number)?;
     let policy = settings.permanent.policies.as_slice().get(place)?;

@@ -20,7 +20,7 @@ pub fn policy_settings_member(
     settings: &Settings,
     number: u64,
 ) -> Result<Answer, Stop>
-    ensures { Acts settings.now result (policy_settings_member settings.now number) }
+    ensures { Acts settings.entry.now result (policy_settings_member settings.entry.now number) }
 {
     let found = find_policy(alloc, settings, number)?;
     let policy = found.policy.copy(alloc)?;

@@ -24,7 +24,7 @@ pub fn zone_settings_member(
     settings: &Settings,
     number: u64,
 ) -> Result<Answer, Stop>
-    ensures { Acts settings.now result (zone_settings_member settings.now number) }
+    ensures { Acts settings.entry.now result (zone_settings_member settings.entry.now number) }
 {
     let found = find_zone(alloc, settings, number)?;
     let zone = found.zone.copy(alloc)?;

@@ -17,7 +17,7 @@ use std::alloc::Global;
 
 /// `getPolicies`: the names of the policies in force, as they are listed.
 pub fn policies_member(alloc: Global, settings: &Settings) -> Result<Answer, Memory>
-    ensures { IfOk result (λ answer. policies_member settings.now ≡ record { signals = answer.signals; reply = answer.reply; after = settings.now }) }
+    ensures { IfOk result (λ answer. policies_member settings.entry.now ≡ record { signals = answer.signals; reply = answer.reply; after = settings.entry.now }) }
 {
     let names = policy_names(alloc, settings.runtime.config.policies.as_slice())?;
     Ok(replied(alloc, Reply::Texts(names)))
@@ -25,7 +25,7 @@ pub fn policies_member(alloc: Global, settings: &Settings) -> Result<Answer, Mem
 
 /// `getActivePolicies`: the policies in force of which each side has the host, every zone or a zone with bindings, as they are listed.
 pub fn active_policies_member(alloc: Global, settings: &Settings) -> Result<Answer, Memory>
-    ensures { IfOk result (λ answer. active_policies_member settings.now ≡ record { signals = answer.signals; reply = answer.reply; after = settings.now }) }
+    ensures { IfOk result (λ answer. active_policies_member settings.entry.now ≡ record { signals = answer.signals; reply = answer.reply; after = settings.entry.now }) }
 {
     let config = &settings.runtime.config;
     let found = active_policies(alloc, config.zones.as_slice(), config.policies.as_slice())?;
@@ -39,7 +39,7 @@ pub fn policy_settings_member(
     settings: &Settings,
     policy: &str,
 ) -> Result<Answer, Stop>
-    ensures { Acts settings.now result (policy_settings_member settings.now policy.now) }
+    ensures { Acts settings.entry.now result (policy_settings_member settings.entry.now policy.now) }
 {
     let found = find_policy(alloc, &settings.runtime.config, policy)?;
     let policy = found.policy.copy(alloc)?;
