@@ -19,11 +19,7 @@ use std::alloc::Global;
 
 /// `getSettings2`: all settings of a permanent zone. Refuses a number that there isn't.
 #[tactic(auto, unfolding(crate::specs::Zones::zone_settings_member))]
-pub fn zone_settings_member(
-    alloc: Global,
-    settings: &Settings,
-    number: u64,
-) -> Result<Answer, Stop>
+pub fn zone_settings_member(alloc: Global, settings: &Settings, number: u64) -> Result<Answer, Stop>
     ensures { Acts settings.entry.now result (zone_settings_member settings.entry.now number) }
 {
     let found = find_zone(alloc, settings, number)?;

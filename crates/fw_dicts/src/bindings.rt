@@ -74,12 +74,7 @@ fn read_free(
     Ok(entry)
 }
 
-fn read_entry(
-    alloc: Global,
-    ipsets: &[IpSet],
-    kind: BindingKind,
-    text: &str,
-) -> Result<Entry, Stop>
+fn read_entry(alloc: Global, ipsets: &[IpSet], kind: BindingKind, text: &str) -> Result<Entry, Stop>
     ensures { Reads result (entry_from ipsets.now kind text.now) }
 {
     match kind {

@@ -35,25 +35,36 @@ pub fn policy_dict(alloc: Global, policy: &Policy) -> Result<Dict, Memory>
 }
 
 #[tactic(auto, unfolding(crate::specs::Dicts::zone_fields))]
-fn push_zone(
-    alloc: Global,
-    fields: &mut Seq<(Text, DictField)>,
-    zone: &Zone,
-) -> Result<(), Memory>
+fn push_zone(alloc: Global, fields: &mut Seq<(Text, DictField)>, zone: &Zone) -> Result<(), Memory>
     ensures { OnOk result (fields.new ≡ with_fields fields.old (zone_fields zone.now)) }
 {
     push_text(alloc, fields, "version", zone.notes.version.as_str())?;
     push_text(alloc, fields, "short", zone.notes.short.as_str())?;
-    push_text(alloc, fields, "description", zone.notes.description.as_str())?;
+    push_text(
+        alloc,
+        fields,
+        "description",
+        zone.notes.description.as_str(),
+    )?;
     push_text(alloc, fields, "target", zone_target_text(zone.target))?;
     push_texts(alloc, fields, "services", &zone.rules.services)?;
     push_ports(alloc, fields, "ports", zone.rules.ports.as_slice())?;
     push_protocols(alloc, fields, "protocols", zone.rules.protocols.as_slice())?;
-    push_ports(alloc, fields, "source_ports", zone.rules.source_ports.as_slice())?;
+    push_ports(
+        alloc,
+        fields,
+        "source_ports",
+        zone.rules.source_ports.as_slice(),
+    )?;
     push_texts(alloc, fields, "icmp_blocks", &zone.rules.icmp_blocks)?;
     push_flag(alloc, fields, "icmp_block_inversion", zone.inversion)?;
     push_flag(alloc, fields, "masquerade", zone.rules.masquerade)?;
-    push_forwards(alloc, fields, "forward_ports", zone.rules.forwards.as_slice())?;
+    push_forwards(
+        alloc,
+        fields,
+        "forward_ports",
+        zone.rules.forwards.as_slice(),
+    )?;
     push_rules(alloc, fields, "rules_str", zone.rules.rich.as_slice())?;
     push_interfaces(alloc, fields, "interfaces", zone.interfaces.as_slice())?;
     push_sources(alloc, fields, "sources", zone.sources.as_slice())?;
@@ -70,18 +81,38 @@ fn push_policy(
 {
     push_text(alloc, fields, "version", policy.notes.version.as_str())?;
     push_text(alloc, fields, "short", policy.notes.short.as_str())?;
-    push_text(alloc, fields, "description", policy.notes.description.as_str())?;
+    push_text(
+        alloc,
+        fields,
+        "description",
+        policy.notes.description.as_str(),
+    )?;
     push_text(alloc, fields, "target", policy_target_text(policy.target))?;
     push_number(alloc, fields, "priority", policy.priority)?;
     push_texts(alloc, fields, "ingress_zones", &policy.ingress)?;
     push_texts(alloc, fields, "egress_zones", &policy.egress)?;
     push_texts(alloc, fields, "services", &policy.rules.services)?;
     push_ports(alloc, fields, "ports", policy.rules.ports.as_slice())?;
-    push_protocols(alloc, fields, "protocols", policy.rules.protocols.as_slice())?;
-    push_ports(alloc, fields, "source_ports", policy.rules.source_ports.as_slice())?;
+    push_protocols(
+        alloc,
+        fields,
+        "protocols",
+        policy.rules.protocols.as_slice(),
+    )?;
+    push_ports(
+        alloc,
+        fields,
+        "source_ports",
+        policy.rules.source_ports.as_slice(),
+    )?;
     push_texts(alloc, fields, "icmp_blocks", &policy.rules.icmp_blocks)?;
     push_flag(alloc, fields, "masquerade", policy.rules.masquerade)?;
-    push_forwards(alloc, fields, "forward_ports", policy.rules.forwards.as_slice())?;
+    push_forwards(
+        alloc,
+        fields,
+        "forward_ports",
+        policy.rules.forwards.as_slice(),
+    )?;
     push_rules(alloc, fields, "rich_rules", policy.rules.rich.as_slice())
 }
 

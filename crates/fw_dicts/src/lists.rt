@@ -12,9 +12,7 @@ use fw_calls::DictField;
 use fw_model::{Config, Rules, Setting};
 use fw_zone::add;
 use fw_zone_edits::has_setting;
-use fw_zone_members::{
-    read_forward, read_icmp, read_port, read_protocol, read_rule, read_service,
-};
+use fw_zone_members::{read_forward, read_icmp, read_port, read_protocol, read_rule, read_service};
 use std::alloc::Global;
 
 /// A list of settings whose elements are texts.
@@ -133,12 +131,7 @@ fn add_texts(
     Ok(())
 }
 
-fn add_rows(
-    alloc: Global,
-    list: RowList,
-    rows: &[Seq<Text>],
-    rules: &mut Rules,
-) -> Result<(), Stop>
+fn add_rows(alloc: Global, list: RowList, rows: &[Seq<Text>], rules: &mut Rules) -> Result<(), Stop>
     ensures { Makes rules.new result (with_all (row_setting list) rules.old rows.now) }
 {
     for row in rows {

@@ -36,12 +36,7 @@ pub fn read_policy(
 
 /// The policy that a dict says, whether or not it keeps the rules on policies.
 #[tactic(auto, unfolding(crate::specs::Policies::policy_said))]
-fn read_said(
-    alloc: Global,
-    config: &Config,
-    policy: &Policy,
-    dict: &Dict,
-) -> Result<Policy, Stop>
+fn read_said(alloc: Global, config: &Config, policy: &Policy, dict: &Dict) -> Result<Policy, Stop>
     ensures { Reads result (policy_said config.now policy.now dict.now) }
 {
     let fields = dict.fields.as_slice();
@@ -115,11 +110,8 @@ fn fault_subject(alloc: Global, policy: &Policy, fault: Fault) -> Result<Text, M
         Fault::Priority => decimal_text(alloc, policy.priority),
         Fault::UnknownIngress(place) => name_at(alloc, policy.ingress.as_slice(), place),
         Fault::UnknownEgress(place) => name_at(alloc, policy.egress.as_slice(), place),
-        Fault::NotAlone
-        | Fault::HostToHost
-        | Fault::Masquerade
-        | Fault::Forward
-        | Fault::Mark => Text::of(alloc, policy.name.as_str()),
+        Fault::NotAlone | Fault::HostToHost | Fault::Masquerade | Fault::Forward | Fault::Mark =>
+            Text::of(alloc, policy.name.as_str()),
     }
 }
 

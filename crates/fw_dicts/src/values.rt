@@ -68,7 +68,11 @@ pub fn rows_at<'a>(fields: &'a [(Text, DictField)], key: &str) -> Option<&'a [Se
 
 /// The notes of a zone or a policy.
 #[tactic(auto, unfolding(crate::specs::Values::notes_told))]
-pub fn read_notes(alloc: Global, fields: &[(Text, DictField)], notes: &Notes) -> Result<Notes, Memory>
+pub fn read_notes(
+    alloc: Global,
+    fields: &[(Text, DictField)],
+    notes: &Notes,
+) -> Result<Notes, Memory>
     ensures { IfOk result (λ told. told ≡ notes_told fields.now notes.now) }
 {
     let version = text_or(alloc, text_at(fields, "version"), &notes.version)?;

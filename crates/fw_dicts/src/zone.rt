@@ -37,8 +37,24 @@ pub fn read_zone(
     let target = read_zone_target(alloc, text_at(fields, "target"), zone.target)?;
     let rules = read_rules(alloc, config, Owner::Zone, fields, &zone.rules)?;
     let mut told = with_settings(alloc, fields, zone, target, rules)?;
-    read_entries(alloc, ipsets, before, behind, fields, BindingKind::Interface, &mut told)?;
-    read_entries(alloc, ipsets, before, behind, fields, BindingKind::Source, &mut told)?;
+    read_entries(
+        alloc,
+        ipsets,
+        before,
+        behind,
+        fields,
+        BindingKind::Interface,
+        &mut told,
+    )?;
+    read_entries(
+        alloc,
+        ipsets,
+        before,
+        behind,
+        fields,
+        BindingKind::Source,
+        &mut told,
+    )?;
     Ok(told)
 }
 

@@ -29,7 +29,13 @@ pub fn set_zone_settings_member(
     ensures err { OnErr result (settings.new ≡ settings.old) }
 {
     let found = find_zone(alloc, &settings.runtime.config, zone)?;
-    let told = read_zone_at(alloc, &settings.runtime.config, found.place, found.zone, dict)?;
+    let told = read_zone_at(
+        alloc,
+        &settings.runtime.config,
+        found.place,
+        found.zone,
+        dict,
+    )?;
     let answer = updated(alloc, &told)?;
     let kept = kept_timers(alloc, &told, settings.timers.as_slice())?;
     let place = found.place;
