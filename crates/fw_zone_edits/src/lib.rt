@@ -17,5 +17,5 @@ pub use setting::{add_at, has_setting, remove_at};
 pub use signal::{
     added_signal, bound_kind, entry_signal, moved_kind, removed_signal, unbound_kind,
 };
-pub use text::{port_text, setting_text};
+pub use text::{port_text, setting_text, to_address_text, to_port_text};
 pub use zone::{FoundZone, zone_meant, zone_named};

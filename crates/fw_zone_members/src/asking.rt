@@ -64,7 +64,7 @@ fn active_zones(alloc: Global, zones: &[Zone]) -> Result<Seq<Active>, Memory>
 }
 
 /// Whether packets belong to a zone by bindings.
-fn is_active(zone: &Zone) -> bool
+pub fn is_active(zone: &Zone) -> bool
     ensures { result ≡ is_active zone.now }
 {
     !(zone.interfaces.as_slice().is_empty() && zone.sources.as_slice().is_empty())

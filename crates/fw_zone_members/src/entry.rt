@@ -28,7 +28,8 @@ pub fn read_entry(alloc: Global, ipsets: &[IpSet], word: &BindingWord) -> Result
     }
 }
 
-fn read_interface(alloc: Global, text: &str) -> Result<Entry, Stop>
+/// The interface that an argument names.
+pub fn read_interface(alloc: Global, text: &str) -> Result<Entry, Stop>
     ensures { Reads result (interface_from text.now (interface text.now)) }
 {
     match read_iface(text) {
@@ -37,7 +38,8 @@ fn read_interface(alloc: Global, text: &str) -> Result<Entry, Stop>
     }
 }
 
-fn read_source(alloc: Global, ipsets: &[IpSet], text: &str) -> Result<Entry, Stop>
+/// The source that an argument names; an ipset is one of those that there are.
+pub fn read_source(alloc: Global, ipsets: &[IpSet], text: &str) -> Result<Entry, Stop>
     ensures { Reads result (source_from ipsets.now text.now (after_key (codes "ipset:") text.now)) }
 {
     if let Some(name) = after_key("ipset:", text) {

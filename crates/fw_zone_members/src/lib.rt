@@ -14,7 +14,12 @@ mod setting;
 mod settings;
 mod told;
 
-pub use asking::{active_zones_member, zone_settings_member, zones_member};
+pub use asking::{active_zones_member, is_active, zone_settings_member, zones_member};
 pub use bindings::{binding_member, zone_of_member};
+pub use entry::{read_interface, read_source};
 pub use inversion::inversion_member;
+pub use port::{read_forward, read_port};
+pub use reading::find_zone;
+pub use rich::read_rule;
+pub use setting::{read_icmp, read_protocol, read_service};
 pub use settings::setting_member;

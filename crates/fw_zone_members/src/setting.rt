@@ -55,7 +55,8 @@ pub fn read_setting(alloc: Global, config: &Config, words: &SettingWords) -> Res
     }
 }
 
-fn read_service(alloc: Global, services: &[Service], name: &str) -> Result<Setting, Stop>
+/// One of these services, by its name.
+pub fn read_service(alloc: Global, services: &[Service], name: &str) -> Result<Setting, Stop>
     ensures { Reads result (service_of services.now name.now) }
 {
     if knows(services, name) {
@@ -65,7 +66,8 @@ fn read_service(alloc: Global, services: &[Service], name: &str) -> Result<Setti
     }
 }
 
-fn read_icmp(alloc: Global, name: &str) -> Result<Setting, Stop>
+/// An ICMP type by its name.
+pub fn read_icmp(alloc: Global, name: &str) -> Result<Setting, Stop>
     ensures { Reads result (icmp_of name.now) }
 {
     if icmp_numbers(name).is_some() {
@@ -75,7 +77,8 @@ fn read_icmp(alloc: Global, name: &str) -> Result<Setting, Stop>
     }
 }
 
-fn read_protocol(alloc: Global, protocol: &str) -> Result<Setting, Stop>
+/// A protocol by its name or its number.
+pub fn read_protocol(alloc: Global, protocol: &str) -> Result<Setting, Stop>
     ensures { Reads result (protocol_from protocol.now (proto protocol.now)) }
 {
     match read_proto(protocol) {
