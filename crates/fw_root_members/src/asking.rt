@@ -12,7 +12,7 @@ use std::alloc::Global;
 
 /// `getDefaultZone`: the zone in force of packets that no binding gives one.
 pub fn default_zone_member(alloc: Global, settings: &Settings) -> Result<Answer, Memory>
-    ensures { IfOk result (λ answer. default_zone_member settings.now ≡ record { signals = answer.signals; reply = answer.reply; after = settings.now }) }
+    ensures { IfOk result (λ answer. default_zone_member settings.entry.now ≡ record { signals = answer.signals; reply = answer.reply; after = settings.entry.now }) }
 {
     let zone = Text::of(alloc, settings.runtime.config.default_zone.as_str())?;
     Ok(replied(alloc, Reply::Text(zone)))
@@ -20,7 +20,7 @@ pub fn default_zone_member(alloc: Global, settings: &Settings) -> Result<Answer,
 
 /// `getLogDenied`: which denied packets are logged.
 pub fn log_denied_member(alloc: Global, settings: &Settings) -> Result<Answer, Memory>
-    ensures { IfOk result (λ answer. log_denied_member settings.now ≡ record { signals = answer.signals; reply = answer.reply; after = settings.now }) }
+    ensures { IfOk result (λ answer. log_denied_member settings.entry.now ≡ record { signals = answer.signals; reply = answer.reply; after = settings.entry.now }) }
 {
     let word = Text::of(alloc, log_denied_text(settings.runtime.config.log_denied))?;
     Ok(replied(alloc, Reply::Text(word)))
@@ -28,7 +28,7 @@ pub fn log_denied_member(alloc: Global, settings: &Settings) -> Result<Answer, M
 
 /// `queryPanicMode`: whether all packets are dropped. It takes no memory.
 pub fn panic_mode_member(alloc: Global, settings: &Settings) -> Answer
-    ensures { panic_mode_member settings.now ≡ record { signals = result.signals; reply = result.reply; after = settings.now } }
+    ensures { panic_mode_member settings.entry.now ≡ record { signals = result.signals; reply = result.reply; after = settings.entry.now } }
 {
     replied(alloc, Reply::Bool(settings.runtime.panic))
 }
@@ -45,7 +45,7 @@ fn service_names(alloc: Global, services: &[Service]) -> Result<Seq<Text>, Memor
 
 /// `listServices`: the names of all services, as they are listed.
 pub fn services_member(alloc: Global, settings: &Settings) -> Result<Answer, Memory>
-    ensures { IfOk result (λ answer. services_member settings.now ≡ record { signals = answer.signals; reply = answer.reply; after = settings.now }) }
+    ensures { IfOk result (λ answer. services_member settings.entry.now ≡ record { signals = answer.signals; reply = answer.reply; after = settings.entry.now }) }
 {
     let names = service_names(alloc, settings.runtime.config.services.as_slice())?;
     Ok(replied(alloc, Reply::Texts(names)))
