@@ -194,12 +194,12 @@ fn mixed(mut sum: u64, bytes: &[u8]) -> u64 {
     sum
 }
 
-fn checksum(count: u64) -> u64 {
-    let bytes = dict_bytes();
+/// Reads a dict and writes it again.
+fn both(bytes: &[u8], count: u64) -> u64 {
     let mut out = Vec::new();
     let mut sum = 0;
     for _ in 0..count {
-        let mut reader = Reader { bytes: &bytes, at: 0 };
+        let mut reader = Reader { bytes, at: 0 };
         let Some(entries) = reader.dict() else {
             return 0;
         };
@@ -213,7 +213,45 @@ fn checksum(count: u64) -> u64 {
     sum
 }
 
+/// Reads a dict alone.
+fn read(bytes: &[u8], count: u64) -> u64 {
+    let mut sum = 0;
+    for _ in 0..count {
+        let mut reader = Reader { bytes, at: 0 };
+        let Some(entries) = reader.dict() else {
+            return 0;
+        };
+        std::hint::black_box(&entries);
+        sum = mixed(sum, &(reader.at as u64).to_le_bytes());
+    }
+    sum
+}
+
+/// Writes a dict that was read once.
+fn write(bytes: &[u8], count: u64) -> u64 {
+    let mut reader = Reader { bytes, at: 0 };
+    let Some(entries) = reader.dict() else {
+        return 0;
+    };
+    let mut out = Vec::new();
+    let mut sum = 0;
+    for _ in 0..count {
+        out.clear();
+        push_dict(&mut out, &entries);
+        sum = mixed(sum, &out);
+    }
+    sum
+}
+
 fn main() {
-    let count = std::env::args().nth(1).and_then(|word| word.parse().ok());
-    println!("{}", checksum(count.expect("how many times is the dict read and written?")));
+    let mut words = std::env::args().skip(1);
+    let count = words.next().and_then(|word| word.parse().ok()).expect("how often?");
+    let bytes = dict_bytes();
+    let sum = match words.next().as_deref() {
+        Some("both") => both(&bytes, count),
+        Some("read") => read(&bytes, count),
+        Some("write") => write(&bytes, count),
+        _ => panic!("read, write or both?"),
+    };
+    println!("{sum}");
 }

@@ -28,39 +28,38 @@ use Rattle.dbus_msg.specs.declared.known.Known.{Known}
 use Rattle.dbus_msg.specs.declared.known.Name.{Name}
 use Rattle.dbus_msg.specs.declared.known.Name.TheVariants as names
 use Rattle.dbus_msg.specs.declared.message.Fields.{Fields}
-use Rattle.dbus_msg.specs.Known.{code_in, fill, inner_in, item_in, known_from, members_in, name_in, no_fields, number_in, path_in, serial_in, signature_in, with_field}
+use Rattle.dbus_msg.specs.Known.{code_in, content_in, fill, inner_in, item_in, known_from, members_in, name_in, no_fields, number_in, path_in, serial_in, signature_in, with_field}
 use Rattle.dbus_msg.proofs.NameTexts.{name_is_text}
 use Rattle.dbus_msg.specs.Written.{AreFields, field, header_fields, IsBody, IsNameField, IsPathField, number_field, optional, path_field, signature_field, text_field}
 
 -- ---- one level of a value
 
-out_byte : (n : ℕ) → out-Value (value.Byte n) ≡ Value-F.Byte n
+pub out_byte : (n : ℕ) → out-Value (value.Byte n) ≡ Value-F.Byte n
 out_byte n = ap out-Value (sym (rolls-Byte n)) ∙ out-roll-Value (Value-F.Byte n)
 
-out_u32 : (n : ℕ) → out-Value (value.U32 n) ≡ Value-F.U32 n
+pub out_u32 : (n : ℕ) → out-Value (value.U32 n) ≡ Value-F.U32 n
 out_u32 n = ap out-Value (sym (rolls-U32 n)) ∙ out-roll-Value (Value-F.U32 n)
 
-out_str : (t : List ℕ) → out-Value (value.Str t) ≡ Value-F.Str t
+pub out_str : (t : List ℕ) → out-Value (value.Str t) ≡ Value-F.Str t
 out_str t = ap out-Value (sym (rolls-Str t)) ∙ out-roll-Value (Value-F.Str t)
 
-out_path : (t : List ℕ) → out-Value (value.Path t) ≡ Value-F.Path t
+pub out_path : (t : List ℕ) → out-Value (value.Path t) ≡ Value-F.Path t
 out_path t = ap out-Value (sym (rolls-Path t)) ∙ out-roll-Value (Value-F.Path t)
 
-out_sig : (s : List ℕ) → out-Value (value.Sig s) ≡ Value-F.Sig s
+pub out_sig : (s : List ℕ) → out-Value (value.Sig s) ≡ Value-F.Sig s
 out_sig s = ap out-Value (sym (rolls-Sig s)) ∙ out-roll-Value (Value-F.Sig s)
 
-out_members : (vs : List Value) → out-Value (value.Struct vs) ≡ Value-F.Struct vs
+pub out_members : (vs : List Value) → out-Value (value.Struct vs) ≡ Value-F.Struct vs
 out_members vs = ap out-Value (sym (rolls-Struct vs)) ∙ out-roll-Value (Value-F.Struct vs)
 
-out_inner : (s : List ℕ) (v : Value) → out-Value (value.Variant s v) ≡ Value-F.Variant s v
+pub out_inner : (s : List ℕ) (v : Value) → out-Value (value.Variant s v) ≡ Value-F.Variant s v
 out_inner s v = ap out-Value (sym (rolls-Variant s v)) ∙ out-roll-Value (Value-F.Variant s v)
 
 -- ---- fields are taken in one after the other
 
 -- a field is taken in by its code
-item_taken : (c letter : ℕ) (inner : Value) (known : Known) → item_in (field c letter inner) known ≡ with_field c inner known
-item_taken c letter inner known =
-    rw (out_members (value.Byte c ∷ value.Variant (letter ∷ []) inner ∷ []), out_byte c, out_inner (letter ∷ []) inner) refl
+pub struct_taken : (c : ℕ) (codes : List ℕ) (inner : Value) (known : Known) → item_in (value.Struct (value.Byte c ∷ value.Variant codes inner ∷ [])) known ≡ with_field c (content_in inner) known
+struct_taken c codes inner known = rw (out_members (value.Byte c ∷ value.Variant codes inner ∷ []), out_byte c, out_inner codes inner) refl
 
 -- what is known of these fields
 abbrev made : (path interface member error : Option (List ℕ)) (reply : Option ℕ) (destination sender signature : Option (List ℕ)) (fds : Option ℕ) → Known
@@ -69,8 +68,8 @@ made path interface member error reply destination sender signature fds = record
   signature = signature;
 }
 
-goes_on : (c letter : ℕ) (inner : Value) (rest : List Value) (known next : Known) → with_field c inner known ≡ Some next → known_from (field c letter inner ∷ rest) known ≡ known_from rest next
-goes_on c letter inner rest known next is = rw (item_taken c letter inner known, is) refl
+goes_on : (c letter : ℕ) (inner : Value) (rest : List Value) (known next : Known) → with_field c (content_in inner) known ≡ Some next → known_from (field c letter inner ∷ rest) known ≡ known_from rest next
+goes_on c letter inner rest known next is = rw (struct_taken c (letter ∷ []) inner known, is) refl
 
 take_path : (p : Option (List ℕ)) (rest : List Value) → known_from (optional (path_field 1) p ++ rest) no_fields ≡ known_from rest (made p None None None None None None None None)
 unfolding with_field

@@ -1,11 +1,11 @@
 pub mod BodyLaws
 pub mod CutLaws
-pub mod KnownLaws
 pub mod NameLaws
 pub mod StreamLaws
 pub mod FieldLaws
 pub mod PatchLaws
 pub mod NameTexts
 pub mod FieldsRead
+pub mod FieldReadingLaws
 pub mod MessageRead
 pub mod WrittenStream

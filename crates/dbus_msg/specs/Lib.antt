@@ -2,6 +2,7 @@ pub mod Bodies
 pub mod Names
 pub mod Headers
 pub mod Known
+pub mod FieldReading
 pub mod Messages
 pub mod Streams
 pub mod Cuts

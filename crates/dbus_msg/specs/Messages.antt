@@ -17,11 +17,12 @@ use Rattle.dbus_msg.specs.declared.message.Message.{Message}
 use Rattle.dbus_msg.specs.Headers.{body_start, fields_end, header_of, whole_len}
 use Rattle.dbus_msg.specs.Known.{has_required, known_from, no_fields}
 
--- The type of the header fields: `a(yv)`.
+-- The type of the header fields: `a(yv)` ("Message Format").
 abbrev pub fields_kind : Kind
 fields_kind = Array (Struct (Plain basic.Byte ∷ Variant ∷ []))
 
--- where the header fields begin, with their length
+-- where the header fields begin, with their length, behind the byte order, the kind, the flags, the version, the length of
+-- the body and the serial ("Message Format")
 abbrev pub fields_start : ℕ
 fields_start = 12
 
@@ -36,15 +37,16 @@ items_in value = items_of (out-Value value)
 abbrev pub known_in : Value × ℕ → Option Known
 known_in found = option_and_then (λ items. known_from items no_fields) (items_in found.0)
 
--- the known header fields
+-- the known header fields ("Header Fields")
 unfoldable pub fields_in : Endian → List ℕ → Option Known
 fields_in endian bytes = option_and_then known_in (result_ok (value_of endian fields_kind fields_start bytes))
 
--- the bytes between the header fields and the body are zeros
+-- The bytes between the header fields and the body are zeros ("Message Format": the header ends at a multiple of 8).
 abbrev pub are_zeros : List ℕ → Bool
 are_zeros bytes = list_all (λ b. b == 0) bytes
 
--- The values of a signature from an offset to the end of the bytes; without a signature there are none.
+-- The values of a signature from an offset to the end of the bytes; without a signature there are none ("Message Format",
+-- and SIGNATURE in "Header Fields").
 abbrev pub to_the_end : List ℕ → List Value × ℕ → Option (List Value)
 to_the_end bytes found = if found.1 == length bytes then Some found.0 else None
 
@@ -53,7 +55,8 @@ body_in endian None start bytes = to_the_end bytes ([], start)
 body_in endian (Some codes) start bytes =
     option_and_then (λ kinds. option_and_then (to_the_end bytes) (result_ok (values_of endian kinds start bytes))) (result_ok (all_kinds codes))
 
--- a message of a header, of its known fields and of its body
+-- a message of a header, of its known fields, those that its kind requires among them ("Message Types", "Header Fields"),
+-- and of its body
 abbrev pub made : Header → Known → List Value → Option Message
 made header known body =
     if has_required header.kind known.fields then Some (record { kind = header.kind; flags = header.flags; serial = header.serial; fields = known.fields; body = body }) else None
@@ -69,6 +72,6 @@ abbrev pub with_header : List ℕ → Header → Option Message
 with_header bytes header =
     if whole_len header == length bytes then option_and_then (with_fields header bytes) (fields_in header.endian bytes) else None
 
--- The message that bytes are as a whole. Unknown fields and flags are ignored.
+-- The message that bytes are as a whole ("Message Format"). Unknown fields and flags are ignored ("Header Fields").
 unfoldable pub message_of : List ℕ → Option Message
 message_of bytes = option_and_then (with_header bytes) (header_of bytes)

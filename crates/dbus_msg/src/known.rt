@@ -1,13 +1,14 @@
 //! The header fields of a message that are known.
 
 ghost use Rattle.std.specs.Prelude.{◌≡◌, IfOk, MatchBool, None, Some};
-ghost use Rattle.std.specs.Option.{option_copied};
-ghost use Rattle.dbus_msg.specs.Known.{code_in, fill, has_required, inner_in, item_in, known_from, is_name, members_in, name_in, no_fields, number_in, path_in, serial_in, signature_in, with_field};
+ghost use Rattle.dbus_msg.specs.FieldReading.{IsSound, seen_inner};
+ghost use Rattle.dbus_msg.specs.Known.{fill, has_required, is_name, name_in, no_fields, number_in, path_in, serial_in, signature_in, with_field};
 
+use crate::field_reading::Inner;
 use crate::message::Fields;
 use crate::names::{is_bus_name, is_interface, is_member};
-use dbus_wire::{Signature, Value};
-use fw_base::{Memory, Text, TryCopy};
+use dbus_wire::Signature;
+use fw_base::{Memory, Text};
 use std::alloc::Global;
 
 /// The known fields, and the signature of the body.
@@ -49,89 +50,60 @@ fn fill<T: Drop>(field: &mut Option<T>, found: Option<T>) -> bool
     }
 }
 
-/// The object path that a value is.
-fn path_in(alloc: Global, value: &Value) -> Result<Option<Text>, Memory>
-    ensures { IfOk result (λ path. path ≡ path_in value.now) }
+/// The object path that a field holds.
+fn path_in(alloc: Global, inner: &Inner<'_>) -> Result<Option<Text>, Memory>
+    ensures { IfOk result (λ path. path ≡ path_in (seen_inner inner.now)) }
 {
-    match value {
-        Value::Path(path) => Ok(Some(path.copy(alloc)?)),
+    match inner {
+        Inner::Path(path) => Ok(Some(Text::of(alloc, path)?)),
         _ => Ok(None),
     }
 }
 
-/// The name that a value is.
-fn name_in(alloc: Global, name: Name, value: &Value) -> Result<Option<Text>, Memory>
-    ensures { IfOk result (λ text. text ≡ name_in name value.now) }
+/// The name that a field holds.
+fn name_in(alloc: Global, name: Name, inner: &Inner<'_>) -> Result<Option<Text>, Memory>
+    ensures { IfOk result (λ text. text ≡ name_in name (seen_inner inner.now)) }
 {
-    match value {
-        Value::Str(text) if is_name(name, text.as_str().as_bytes()) => Ok(Some(text.copy(alloc)?)),
+    match inner {
+        Inner::Text(text) if is_name(name, text.as_bytes()) => Ok(Some(Text::of(alloc, text)?)),
         _ => Ok(None),
     }
 }
 
-/// The signature that a value is.
-fn signature_in(alloc: Global, value: &Value) -> Result<Option<Signature>, Memory>
-    ensures { IfOk result (λ signature. signature ≡ signature_in value.now) }
+/// The signature that a field holds.
+fn signature_in(alloc: Global, inner: &Inner<'_>) -> Result<Option<Signature>, Memory>
+    requires { IsSound inner.now }
+    ensures { IfOk result (λ signature. signature ≡ signature_in (seen_inner inner.now)) }
 {
-    match value {
-        Value::Sig(signature) => Ok(Some(signature.copy(alloc)?)),
+    match inner {
+        Inner::Signature(codes) => Ok(Some(Signature::of_text(alloc, codes)?)),
         _ => Ok(None),
     }
 }
 
-/// The number that a value is.
-fn number_in(value: &Value) -> Option<u32>
-    ensures { result ≡ number_in value.now }
+/// The number that a field holds.
+fn number_in(inner: &Inner<'_>) -> Option<u32>
+    ensures { result ≡ number_in (seen_inner inner.now) }
 {
-    match value {
-        Value::U32(number) => Some(*number),
+    match inner {
+        Inner::Number(number) => Some(*number),
         _ => None,
     }
 }
 
-/// The serial that a value is, which is not 0.
-fn serial_in(value: &Value) -> Option<u32>
-    ensures { result ≡ serial_in value.now }
+/// The serial that a field holds, which is not 0.
+fn serial_in(inner: &Inner<'_>) -> Option<u32>
+    ensures { result ≡ serial_in (seen_inner inner.now) }
 {
-    match value {
-        Value::U32(number) if *number != 0 => Some(*number),
-        _ => None,
-    }
-}
-
-/// The code of a header field, and what it holds.
-fn code_of(value: &Value) -> Option<u8>
-    ensures { result ≡ code_in value.now }
-{
-    match value {
-        Value::Byte(code) => Some(*code),
-        _ => None,
-    }
-}
-
-/// What a variant holds.
-fn inner_of(value: &Value) -> Option<&Value>
-    ensures { option_copied result ≡ inner_in value.now }
-{
-    match value {
-        Value::Variant(_, inner) => Some(inner.get()),
-        _ => None,
-    }
-}
-
-/// The members of a struct.
-fn members_of(value: &Value) -> Option<&[Value]>
-    ensures { option_copied result ≡ members_in value.now }
-{
-    match value {
-        Value::Struct(members) => Some(members.as_slice()),
+    match inner {
+        Inner::Number(number) if *number != 0 => Some(*number),
         _ => None,
     }
 }
 
 impl Known {
     /// No field yet.
-    fn none() -> Known
+    pub fn none() -> Known
         ensures { result ≡ no_fields }
     {
         Known {
@@ -152,8 +124,9 @@ impl Known {
 
 /// Takes a header field in, by its code; false where it is at fault.
 #[tactic(auto, unfolding(crate::specs::Known::with_field))]
-fn put(alloc: Global, known: &mut Known, code: u8, inner: &Value) -> Result<bool, Memory>
-    ensures { IfOk result (λ fits. MatchBool fits (with_field code inner.now known.old ≡ Some known.new) (with_field code inner.now known.old ≡ None)) }
+pub fn put(alloc: Global, known: &mut Known, code: u8, inner: &Inner<'_>) -> Result<bool, Memory>
+    requires { IsSound inner.now }
+    ensures { IfOk result (λ fits. MatchBool fits (with_field code (seen_inner inner.now) known.old ≡ Some known.new) (with_field code (seen_inner inner.now) known.old ≡ None)) }
 {
     match code {
         0 => Ok(false),
@@ -189,38 +162,6 @@ fn put(alloc: Global, known: &mut Known, code: u8, inner: &Value) -> Result<bool
         9 => Ok(fill(&mut known.fields.fds, number_in(inner))),
         _ => Ok(true),
     }
-}
-
-/// Takes one item of the array of header fields in, a struct of a code and a variant; false where it is at fault.
-fn put_item(alloc: Global, known: &mut Known, item: &Value) -> Result<bool, Memory>
-    ensures { IfOk result (λ fits. MatchBool fits (item_in item.now known.old ≡ Some known.new) (item_in item.now known.old ≡ None)) }
-{
-    let Some(members) = members_of(item) else {
-        return Ok(false);
-    };
-    let [code, variant] = members else {
-        return Ok(false);
-    };
-    let Some(code) = code_of(code) else {
-        return Ok(false);
-    };
-    let Some(inner) = inner_of(variant) else {
-        return Ok(false);
-    };
-    put(alloc, known, code, inner)
-}
-
-/// The known fields of a row of items; None where one is at fault.
-pub fn known_of(alloc: Global, items: &[Value]) -> Result<Option<Known>, Memory>
-    ensures { IfOk result (λ known. known ≡ known_from items.now no_fields) }
-{
-    let mut known = Known::none();
-    for item in items {
-        if !put_item(alloc, &mut known, item)? {
-            return Ok(None);
-        }
-    }
-    Ok(Some(known))
 }
 
 /// Whether the fields are there that a message of this kind has to have.

@@ -4,6 +4,7 @@
 mod body;
 mod cutting;
 mod decoder;
+mod field_reading;
 mod header;
 mod known;
 mod laws;

@@ -1,61 +1,30 @@
 //! Reads a whole message out of its bytes.
 
 ghost use Rattle.std.specs.Prelude.{◌≡◌, ◌≤◌, length, IfOk};
-ghost use Rattle.std.specs.Option.{option_copied};
-ghost use Rattle.dbus_signature.specs.Signatures.{SpellsType};
 ghost use Rattle.dbus_msg.specs.Headers.{body_start};
-ghost use Rattle.dbus_msg.specs.Messages.{are_zeros, body_in, fields_in, fields_kind, gap_is_zero, items_in, message_of, with_fields, with_header};
+ghost use Rattle.dbus_msg.specs.Messages.{are_zeros, body_in, fields_in, gap_is_zero, message_of, with_fields, with_header};
 
 use crate::body::Body;
+use crate::field_reading::fields_one_by_one;
 use crate::header::{Header, read_header};
-use crate::known::{Known, has_required, known_of};
+use crate::known::{Known, has_required};
 use crate::message::Message;
 use dbus_held::read_held;
-use dbus_signature::{Basic, Kind, Signature};
-use dbus_wire::{Endian, Value, WireError, read_value};
+use dbus_signature::Signature;
+use dbus_wire::{Endian, WireError};
 use fw_base::Memory;
-use sqlite_items::{Boxed, Items};
+use sqlite_items::Items;
 use std::alloc::Global;
 
 /// Where the header fields begin, with their length.
 const FIELDS_START: usize = 12;
 
-/// The items of an array.
-fn items_of(value: &Value) -> Option<&[Value]>
-    ensures { option_copied result ≡ items_in value.now }
-{
-    match value {
-        Value::Array(_, items) => Some(items.as_slice()),
-        _ => None,
-    }
-}
-
-/// The signature of the header fields, `a(yv)`.
-fn fields_signature(alloc: Global) -> Result<Signature, Memory>
-    ensures { IfOk result (λ signature. SpellsType signature fields_kind) }
-{
-    let mut members = Items::new(alloc);
-    members.push(Kind::Basic(Basic::Byte))?;
-    members.push(Kind::Variant)?;
-    let kind = Kind::Array(Boxed::new(alloc, Kind::Struct(members))?);
-    Signature::of_kind(alloc, &kind)
-}
-
 /// The known header fields of a message; None where they are at fault.
-#[tactic(auto, unfolding(crate::specs::Messages::fields_in))]
 fn fields_in(alloc: Global, endian: Endian, bytes: &[u8]) -> Result<Option<Known>, Memory>
     requires { 16 ≤ length bytes.now }
     ensures { IfOk result (λ known. known ≡ fields_in endian bytes.now) }
 {
-    let signature = fields_signature(alloc)?;
-    match read_value(alloc, &signature, bytes, FIELDS_START, endian) {
-        Ok((value, _)) => match items_of(&value) {
-            Some(items) => known_of(alloc, items),
-            None => Ok(None),
-        },
-        Err(WireError::Bad(_)) => Ok(None),
-        Err(WireError::Memory) => Err(Memory),
-    }
+    fields_one_by_one(alloc, endian, FIELDS_START, bytes)
 }
 
 fn are_zeros(bytes: &[u8]) -> bool
