@@ -3,9 +3,8 @@
 //! many ports and rich rules there are; of policies there are a tenth as many. The folder bench/ has the yardstick of `compile`.
 #![tactic(auto)]
 
-ghost use Rattle.std.specs.Prelude.{◌≡◌, false};
 ghost use Rattle.fw_valid.specs.Valid.{IsValid};
-ghost use Rattle.nf_chains.specs.Condition.{FiltersAlone};
+ghost use Rattle.nf_sound.specs.Sound.{SoundRules};
 
 use anyhow::{Result, anyhow};
 use fw_broken::broken_rule;
@@ -16,7 +15,7 @@ use fw_service::built_in_config;
 use fw_verdict::verdict;
 use fw_words::split_words;
 use lower_all::Nft;
-use nf_chains::{eval_verdict, filters_alone};
+use nf_chains::eval_verdict;
 use nf_goal::Compiler;
 use nf_rules::Ruleset;
 use std::alloc::Global;
@@ -66,8 +65,7 @@ fn counted(rules: &Ruleset) -> (usize, usize) {
 
 /// Compiles the settings so often, and tells how many chains and rules come out each time.
 fn compile_often(alloc: Global, runtime: &Runtime, count: u64) -> Result<(usize, usize)>
-    requires valid { IsValid runtime.now.config }
-    requires no_panic { runtime.now.panic ≡ false }
+    requires { IsValid runtime.now.config }
 {
     let mut last = (0, 0);
     for _ in 0..count {
@@ -107,7 +105,7 @@ fn walk_often(alloc: Global, runtime: &Runtime, packets: &[Packet], count: u64) 
 
 /// Asks a ruleset so often.
 fn evaluate_often(rules: &Ruleset, packets: &[Packet], count: u64) -> u64
-    requires { FiltersAlone rules.now }
+    requires { SoundRules rules.now }
 {
     let mut accepted: u64 = 0;
     for _ in 0..count {
@@ -122,8 +120,7 @@ fn evaluate_often(rules: &Ruleset, packets: &[Packet], count: u64) -> u64
 
 /// Does the work so often, and gives what is to be printed.
 fn worked(alloc: Global, runtime: &Runtime, work: &str, count: u64) -> Result<String>
-    requires valid { IsValid runtime.now.config }
-    requires no_panic { runtime.now.panic ≡ false }
+    requires { IsValid runtime.now.config }
 {
     let packets = packets(alloc)?;
     match work {
@@ -137,9 +134,6 @@ fn worked(alloc: Global, runtime: &Runtime, work: &str, count: u64) -> Result<St
         }
         _ => {
             let rules = Nft.compile(alloc, runtime)?;
-            if !filters_alone(alloc, &rules) {
-                return Err(anyhow!("no ruleset that can be evaluated"));
-            }
             let accepted = evaluate_often(&rules, packets.as_slice(), count);
             Ok(format!(in alloc; "{accepted} accepted")?)
         }
@@ -148,7 +142,7 @@ fn worked(alloc: Global, runtime: &Runtime, work: &str, count: u64) -> Result<St
 
 /// The same, where the settings are valid.
 fn worked_if_valid(alloc: Global, runtime: &Runtime, work: &str, count: u64) -> Result<String> {
-    if runtime.panic || broken_rule(&runtime.config).is_some() {
+    if broken_rule(&runtime.config).is_some() {
         return Err(anyhow!("the settings aren't valid"));
     }
     worked(alloc, runtime, work, count)

@@ -11,7 +11,7 @@ use Rattle.fw_model.specs.declared.zone.Zone.{Zone}
 use Rattle.fw_valid.specs.Names.{zone_names}
 use Rattle.fw_valid.specs.Valid.{IsValid}
 use Rattle.fw_zone.specs.Lists.{IsIn}
-use Rattle.lower_all.specs.Compiled.{IsCompiled}
+use Rattle.lower_all.specs.Compiled.{IsCompiled, IsMade}
 use Rattle.lower_all.proofs.Apart.{names_apart}
 use Rattle.lower_all.proofs.Found.{found, is_in_again, is_in_before}
 use Rattle.lower_all.proofs.Named.{chains_by_name, each_has_set, sets_by_name}
@@ -21,6 +21,7 @@ use Rattle.lower_all.proofs.Standing.{is_sound}
 use Rattle.lower_all.proofs.Working.{all_works}
 use Rattle.lower_blocks.specs.Needed.{ActingPoliciesAreTold}
 use Rattle.lower_hooks.specs.Laws.{HooksLeadTheWay, OneRunsAtEach}
+use Rattle.lower_panic.specs.Laws.{PanicRulesCompile}
 use Rattle.nf_goal.specs.Compiles.{Compiles}
 use Rattle.nf_rules.specs.declared.chain.Chain.{Chain}
 use Rattle.nf_rules.specs.declared.map.NfMap.{NfMap}
@@ -61,7 +62,7 @@ module _ (config : Config) (rules : Ruleset) (made : IsCompiled config rules) (v
     maps = subst (λ (maps : List NfMap). IsByName (λ (map : NfMap). map.name) maps) (sym made.no_map) (λ one other default before within. absurd (omega (arith, within)));
   }
 
-pub compiled_compiles : HooksLeadTheWay → OneRunsAtEach → ActingPoliciesAreTold
+compiled_compiles : HooksLeadTheWay → OneRunsAtEach → ActingPoliciesAreTold
     → (rules : Ruleset) (runtime : Runtime)
     → IsCompiled runtime.config rules
     → IsValid runtime.config
@@ -73,3 +74,12 @@ compiled_compiles way one_runs acting rules runtime made valid no_panic =
       sound = is_sound runtime.config rules parts acting (in_order runtime.config rules made valid) made.no_map;
       outcomes = way rules runtime no_panic (all_works runtime.config rules parts acting one_runs);
     }
+
+pub made_compiles : HooksLeadTheWay → OneRunsAtEach → ActingPoliciesAreTold → PanicRulesCompile
+    → (rules : Ruleset) (runtime : Runtime) (panic : Bool)
+    → runtime.panic ≡ panic
+    → IsMade panic runtime.config rules
+    → IsValid runtime.config
+    → Compiles rules runtime
+made_compiles way one_runs acting panics rules runtime true is made valid = subst (λ (one : Ruleset). Compiles one runtime) (sym made) (panics runtime is)
+made_compiles way one_runs acting panics rules runtime false is made valid = compiled_compiles way one_runs acting rules runtime made valid is

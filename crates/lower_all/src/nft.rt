@@ -1,6 +1,6 @@
 //! The compiler.
 ghost use Rattle.std.specs.Prelude.{IfOk, IsPermutation};
-ghost use Rattle.lower_all.specs.Compiled.{IsCompiled};
+ghost use Rattle.lower_all.specs.Compiled.{IsCompiled, IsMade};
 ghost use Rattle.lower_all.specs.Joined.{AreJoined};
 ghost use Rattle.lower_all.specs.Ordered.{IsOrdered};
 
@@ -12,13 +12,14 @@ use lower_blocks::{acting_policies_are_told, push_block, settings_chains};
 use lower_hooks::{
     forward_chains, hooks_lead_the_way, input_chains, one_runs_at_each_hook, output_chains,
 };
+use lower_panic::{panic_rules, panic_rules_compile};
 use nf_goal::Compiler;
 use nf_rules::{Chain, Ruleset};
 use std::alloc::Global;
 
 /// The compiler of settings to rulesets of nft(8): base chains at input, forward and output, behind them a chain for each zone in use, or
 /// for each two of them, and the chains of those settings to which they jump; each ipset as its set. Nothing that no packet can meet
-/// has a chain.
+/// has a chain. In panic mode two base chains drop all.
 pub struct Nft;
 
 /// Chains in order of their names.
@@ -46,7 +47,7 @@ fn chains_of(alloc: Global, runtime: &Runtime) -> Result<Seq<Chain>, Memory>
     by_name(chains)
 }
 
-/// The ruleset of the settings in force.
+/// The ruleset of the settings outside panic mode.
 fn compiled(alloc: Global, runtime: &Runtime) -> Result<Ruleset, Memory>
     ensures { IfOk result (IsCompiled runtime.now.config) }
 {
@@ -57,15 +58,27 @@ fn compiled(alloc: Global, runtime: &Runtime) -> Result<Ruleset, Memory>
     })
 }
 
-impl Compiler for Nft {
-    ghost use Rattle.lower_all.specs.Compiled.{IsCompiled};
+/// The ruleset of the settings in force.
+fn made(alloc: Global, runtime: &Runtime) -> Result<Ruleset, Memory>
+    ensures { IfOk result (IsMade runtime.now.panic runtime.now.config) }
+{
+    if runtime.panic {
+        panic_rules(alloc)
+    } else {
+        compiled(alloc, runtime)
+    }
+}
 
-    ghost makes = { λ compiler runtime rules. IsCompiled runtime.config rules };
+impl Compiler for Nft {
+    ghost use Rattle.lower_all.specs.Compiled.{IsMade};
+
+    ghost makes = { λ compiler runtime rules. IsMade runtime.panic runtime.config rules };
 
     fn compile(&self, alloc: Global, runtime: &Runtime) -> Result<Ruleset, Memory> {
         hooks_lead_the_way();
         one_runs_at_each_hook();
         acting_policies_are_told();
-        compiled(alloc, runtime)
+        panic_rules_compile();
+        made(alloc, runtime)
     }
 }

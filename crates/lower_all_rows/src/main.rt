@@ -1,12 +1,12 @@
 //! Configurations, and what becomes of packets under them, both by the walk over the settings and by the ruleset that they are compiled
 //! to. The files stdin and stdout beside src/ are one table, worked out by hand from the rules in docs/PROFILE.md.
 //!
-//! `packet WORDS` tells what becomes of a packet, and once more where the ruleset says otherwise; `rules` prints the ruleset, and
-//! `clear` begins anew from the built-in configuration. All other lines are those of `fw_rows`.
+//! `packet WORDS` tells what becomes of a packet, and once more where the ruleset says otherwise; `rules` prints the ruleset, `panic`
+//! begins panic mode, and `clear` begins anew from the built-in configuration. All other lines are those of `fw_rows`.
 #![tactic(auto)]
 
 ghost use Rattle.std.specs.Prelude.{IfOk, IfSome};
-ghost use Rattle.nf_chains.specs.Condition.{FiltersAlone};
+ghost use Rattle.nf_sound.specs.Sound.{SoundRules};
 
 use anyhow::Result;
 use fw_base::Memory;
@@ -19,7 +19,7 @@ use fw_service::built_in_config;
 use fw_verdict::verdict;
 use fw_words::{LineError, split_words};
 use lower_all::Nft;
-use nf_chains::{eval_uncounted, filters_alone};
+use nf_chains::eval_uncounted;
 use nf_goal::Compiler;
 use nf_rules::{Ruleset, print};
 use std::alloc::Global;
@@ -53,6 +53,7 @@ fn done(alloc: Global, runtime: &mut Runtime, line: &str) -> Result<String, Line
     };
     match *kind {
         "clear" => *runtime = built_in(alloc)?,
+        "panic" => runtime.panic = true,
         "packet" => push_packet(alloc, &mut out, runtime, &read_packet(alloc, rest)?)?,
         "rules" => match compiled(alloc, runtime)? {
             Some(rules) => out.push_str(print(alloc, &rules)?.as_str())?,
@@ -63,19 +64,14 @@ fn done(alloc: Global, runtime: &mut Runtime, line: &str) -> Result<String, Line
     Ok(out)
 }
 
-/// The ruleset of the settings, where these are valid, and it can be evaluated.
+/// The ruleset of the settings, where these are valid.
 fn compiled(alloc: Global, runtime: &Runtime) -> Result<Option<Ruleset>, Memory>
-    ensures { IfOk result (λ found. IfSome found FiltersAlone) }
+    ensures { IfOk result (λ found. IfSome found SoundRules) }
 {
-    if runtime.panic || broken_rule(&runtime.config).is_some() {
+    if broken_rule(&runtime.config).is_some() {
         return Ok(None);
     }
-    let rules = Nft.compile(alloc, runtime)?;
-    if filters_alone(alloc, &rules) {
-        Ok(Some(rules))
-    } else {
-        Ok(None)
-    }
+    Ok(Some(Nft.compile(alloc, runtime)?))
 }
 
 /// What becomes of a packet by the settings, and by their ruleset where that says otherwise.

@@ -1,4 +1,5 @@
 pub mod Bridge
+pub mod Keys
 pub mod Order
 pub mod Outcomes
 pub mod Rules

@@ -1,23 +1,22 @@
--- Of a sound ruleset that filters alone, the base chains' statements can be evaluated with 16 links.
+-- A base chain of a sound ruleset runs with 16 links.
 use Rattle.std.proofs.Common.{◌≡◌, ℕ, zero, suc, ◌≤◌, inl, inr, Bool, true, false, ◌&&◌, List, [], ◌∷◌, Option, None, Some, is_some, refl, sym, ap, subst, arith}
 use Rattle.std.specs.List.{find, flat_map, list_all}
 use Rattle.fw_model.specs.declared.packet.Packet.{Packet}
-use Rattle.nf_chains.proofs.Bridge.{AllReady, IsCall, IsRun, Ready, RulesReady}
+use Rattle.nf_chains.proofs.Bridge.{IsCall, IsRun}
 use Rattle.nf_chains.proofs.Rules.{rules_so}
-use Rattle.nf_chains.specs.Condition.{FiltersAlone, are_plain, is_plain}
-use Rattle.nf_chains.specs.Runs.{Seen, calls, look, run_called, run_rules}
-use Rattle.nf_chains.specs.declared.flow.Flow.{Flow}
+use Rattle.nf_chains.specs.Runs.{act, calls, holds, run, run_called, run_rules}
 use Rattle.nf_rules.specs.declared.chain.Chain.{Chain}
+use Rattle.nf_rules.specs.declared.map.NfMap.{NfMap}
 use Rattle.nf_rules.specs.declared.ruleset.Ruleset.{Ruleset}
 use Rattle.nf_rules.specs.declared.rule.Rule.{Rule}
 use Rattle.nf_rules.specs.declared.statement.Stmt.{Stmt}
 use Rattle.nf_rules.specs.declared.statement.Stmt.TheVariants as stmt
 use Rattle.nf_sound.proofs.Order.{pick}
-use Rattle.nf_sound.proofs.Paths.{behind, in_front}
+use Rattle.nf_sound.proofs.Paths.{in_one}
 use Rattle.nf_sound.specs.Names.{chain_of, map_of}
-use Rattle.nf_sound.specs.Sound.{IsIn, Path, rule_stands, statement_stands}
+use Rattle.nf_sound.specs.Sound.{IsIn, Path, SoundRules, map_stands, rule_stands, statement_stands}
 use Rattle.nf_sound.specs.Sound.Path.{stays, link}
-use Rattle.nf_sound.specs.Targets.{rule_targets, targets}
+use Rattle.nf_sound.specs.Targets.{map_values, rule_targets, targets, values}
 
 pub both : (a b : Bool) → a && b ≡ true → (a ≡ true) × (b ≡ true)
 both true true is = (refl, refl)
@@ -34,68 +33,75 @@ of_found test p (first ∷ items) item found all =
       | inr later ↦ of_found test p items item later parts.1
     ]
 
--- a call for each name that may be led to
-abbrev Calls : Ruleset → Option (List ℕ) → Packet → (List ℕ → Seen Flow) → List (List ℕ) → Type 0
-Calls rules leaving packet call names =
-    (name : List ℕ) → IsIn name names → is_some (chain_of rules.chains name) ≡ true → IsCall rules leaving packet call name
+-- and of each name among some
+of_name : (p : List ℕ → Bool) (names : List (List ℕ)) (name : List ℕ) → list_all p names ≡ true → IsIn name names → p name ≡ true
+of_name p [] name all is = absurd is
+of_name p (first ∷ names) name all (inl here) = subst (λ (one : List ℕ). p one ≡ true) here (both (p first) (list_all p names) all).0
+of_name p (first ∷ names) name all (inr later) = of_name p names name (both (p first) (list_all p names) all).1 later
 
-no_maps : (rules : Ruleset) (name : List ℕ) → rules.maps ≡ [] → is_some (map_of rules.maps name) ≡ true → ⊥
-no_maps rules name none is =
-    let nothing : map_of rules.maps name ≡ None = rw none refl in
-    cc
+-- the chain of this name is there
+abbrev is_there : Ruleset → List ℕ → Bool
+is_there rules name = is_some (chain_of rules.chains name)
 
-statement_ready : (rules : Ruleset) (leaving : Option (List ℕ)) (packet : Packet) (call : List ℕ → Seen Flow) (statement : Stmt) → rules.maps ≡ [] → statement_stands rules statement ≡ true → is_plain statement ≡ true → Calls rules leaving packet call (targets rules.maps statement) → Ready rules leaving packet call statement
-statement_ready rules leaving packet call stmt.Accept none stands plain each = tt
-statement_ready rules leaving packet call stmt.Drop none stands plain each = tt
-statement_ready rules leaving packet call (stmt.Reject kind) none stands plain each = tt
-statement_ready rules leaving packet call stmt.Return none stands plain each = tt
-statement_ready rules leaving packet call (stmt.Log line) none stands plain each = tt
-statement_ready rules leaving packet call (stmt.Jump name) none stands plain each = each name (inl refl) stands
-statement_ready rules leaving packet call (stmt.Goto name) none stands plain each = each name (inl refl) stands
-statement_ready rules leaving packet call (stmt.Mark value mask) none stands plain each = cc
-statement_ready rules leaving packet call (stmt.DnatTo dnat) none stands plain each = cc
-statement_ready rules leaving packet call stmt.Masquerade none stands plain each = cc
-statement_ready rules leaving packet call (stmt.VmapIn name) none stands plain each = no_maps rules name none stands
-statement_ready rules leaving packet call (stmt.VmapOut name) none stands plain each = no_maps rules name none stands
-statement_ready rules leaving packet call (stmt.VmapSrc name) none stands plain each = no_maps rules name none stands
-statement_ready rules leaving packet call (stmt.VmapDst name) none stands plain each = no_maps rules name none stands
+map_there : (rules : Ruleset) (test : NfMap → Bool) (found : Option NfMap) → list_all (map_stands rules) rules.maps ≡ true → find test rules.maps ≡ found → (name : List ℕ) → IsIn name (map_values found) → is_there rules name ≡ true
+map_there rules test None stand is name among = absurd among
+map_there rules test (Some map) stand is name among =
+    of_name (is_there rules) (values map.body) name (of_found test (map_stands rules) rules.maps map is stand) among
 
-statements_ready : (rules : Ruleset) (leaving : Option (List ℕ)) (packet : Packet) (call : List ℕ → Seen Flow) (statements : List Stmt) → rules.maps ≡ [] → list_all (statement_stands rules) statements ≡ true → list_all is_plain statements ≡ true → Calls rules leaving packet call (flat_map (targets rules.maps) statements) → AllReady rules leaving packet call statements
-statements_ready rules leaving packet call [] none stands plain each = tt
-statements_ready rules leaving packet call (statement ∷ statements) none stands plain each =
-    let stand = both (statement_stands rules statement) (list_all (statement_stands rules) statements) stands in
-    let are = both (is_plain statement) (list_all is_plain statements) plain in (
-      statement_ready rules leaving packet call statement none stand.0 are.0 (λ name is. each name (in_front name (targets rules.maps statement) (flat_map (targets rules.maps) statements) is)),
-      statements_ready rules leaving packet call statements none stand.1 are.1 (λ name is. each name (behind name (targets rules.maps statement) (flat_map (targets rules.maps) statements) is)),
-    )
+-- where a statement leads there are chains
+statement_there : (rules : Ruleset) → list_all (map_stands rules) rules.maps ≡ true → (statement : Stmt) → statement_stands rules statement ≡ true → (name : List ℕ) → IsIn name (targets rules.maps statement) → is_there rules name ≡ true
+statement_there rules maps stmt.Accept stands name among = absurd among
+statement_there rules maps stmt.Drop stands name among = absurd among
+statement_there rules maps (stmt.Reject kind) stands name among = absurd among
+statement_there rules maps (stmt.Jump to) stands name among = of_name (is_there rules) (to ∷ []) name (rw stands refl) among
+statement_there rules maps (stmt.Goto to) stands name among = of_name (is_there rules) (to ∷ []) name (rw stands refl) among
+statement_there rules maps stmt.Return stands name among = absurd among
+statement_there rules maps (stmt.Log line) stands name among = absurd among
+statement_there rules maps (stmt.Mark value mask) stands name among = absurd among
+statement_there rules maps (stmt.DnatTo dnat) stands name among = absurd among
+statement_there rules maps stmt.Masquerade stands name among = absurd among
+statement_there rules maps (stmt.VmapIn map) stands name among = map_there rules _ (map_of rules.maps map) maps refl name among
+statement_there rules maps (stmt.VmapOut map) stands name among = map_there rules _ (map_of rules.maps map) maps refl name among
+statement_there rules maps (stmt.VmapSrc map) stands name among = map_there rules _ (map_of rules.maps map) maps refl name among
+statement_there rules maps (stmt.VmapDst map) stands name among = map_there rules _ (map_of rules.maps map) maps refl name among
 
-rules_ready : (rules : Ruleset) (leaving : Option (List ℕ)) (packet : Packet) (call : List ℕ → Seen Flow) (list : List Rule) → rules.maps ≡ [] → list_all (rule_stands rules) list ≡ true → are_plain list ≡ true → Calls rules leaving packet call (rule_targets rules.maps list) → RulesReady rules leaving packet call list
-rules_ready rules leaving packet call [] none stands plain each = tt
-rules_ready rules leaving packet call (rule ∷ list) none stands plain each =
-    let stand = both (rule_stands rules rule) (list_all (rule_stands rules) list) stands in
-    let are = both (list_all is_plain rule.stmts) (are_plain list) plain in
-    let statements = both _ (list_all (statement_stands rules) rule.stmts) stand.0 in (
-      statements_ready rules leaving packet call rule.stmts none statements.1 are.0 (λ name is. each name (in_front name (flat_map (targets rules.maps) rule.stmts) (rule_targets rules.maps list) is)),
-      rules_ready rules leaving packet call list none stand.1 are.1 (λ name is. each name (behind name (flat_map (targets rules.maps) rule.stmts) (rule_targets rules.maps list) is)),
-    )
+statements_there : (rules : Ruleset) → list_all (map_stands rules) rules.maps ≡ true → (statements : List Stmt) → list_all (statement_stands rules) statements ≡ true → (name : List ℕ) → IsIn name (flat_map (targets rules.maps) statements) → is_there rules name ≡ true
+statements_there rules maps [] stand name among = absurd among
+statements_there rules maps (statement ∷ statements) stand name among =
+    let parts = both (statement_stands rules statement) (list_all (statement_stands rules) statements) stand in
+    elim (in_one name (targets rules.maps statement) (flat_map (targets rules.maps) statements) among) [
+      | inl here ↦ statement_there rules maps statement parts.0 name here
+      | inr later ↦ statements_there rules maps statements parts.1 name later
+    ]
+
+rules_there : (rules : Ruleset) → list_all (map_stands rules) rules.maps ≡ true → (list : List Rule) → list_all (rule_stands rules) list ≡ true → (name : List ℕ) → IsIn name (rule_targets rules.maps list) → is_there rules name ≡ true
+rules_there rules maps [] stand name among = absurd among
+rules_there rules maps (rule ∷ list) stand name among =
+    let parts = both (rule_stands rules rule) (list_all (rule_stands rules) list) stand in
+    let statements = both _ (list_all (statement_stands rules) rule.stmts) parts.0 in
+    elim (in_one name (flat_map (targets rules.maps) rule.stmts) (rule_targets rules.maps list) among) [
+      | inl here ↦ statements_there rules maps rule.stmts statements.1 name here
+      | inr later ↦ rules_there rules maps list parts.1 name later
+    ]
 
 some_of : (found : Option Chain) → is_some found ≡ true → (chain : Chain) × (found ≡ Some chain)
 some_of None is = cc
 some_of (Some chain) is = (chain, refl)
 
-pub chain_so : (rules : Ruleset) (leaving : Option (List ℕ)) (packet : Packet) → FiltersAlone rules → (links : ℕ) (list : List Rule) → list_all (rule_stands rules) list ≡ true → are_plain list ≡ true → Calls rules leaving packet (calls rules leaving packet links) (rule_targets rules.maps list) → IsRun rules leaving packet list (run_rules (look rules leaving packet) (calls rules leaving packet links) list)
-chain_so rules leaving packet filters links list stands plain each =
-    rules_so rules leaving packet (calls rules leaving packet links) list (rules_ready rules leaving packet (calls rules leaving packet links) list filters.no_map stands plain each)
-
 -- a chain that is found runs with so many links as paths from it need
-pub call_so : (rules : Ruleset) (leaving : Option (List ℕ)) (packet : Packet) → FiltersAlone rules → (links : ℕ) (name : List ℕ) → is_some (chain_of rules.chains name) ≡ true → ((n : ℕ) → Path rules name n → suc n ≤ links) → IsCall rules leaving packet (calls rules leaving packet links) name
+call_so : (rules : Ruleset) (leaving : Option (List ℕ)) (packet : Packet) → SoundRules rules → (links : ℕ) (name : List ℕ) → is_there rules name ≡ true → ((n : ℕ) → Path rules name n → suc n ≤ links) → IsCall rules leaving packet (calls rules leaving packet links) name
 unfolding calls
-call_so rules leaving packet filters zero name is short = absurd (let none = short 0 stays in omega arith)
-call_so rules leaving packet filters (suc links) name is short =
+call_so rules leaving packet sound zero name is short = absurd (let none = short 0 stays in omega arith)
+call_so rules leaving packet sound (suc links) name is short =
     let here = some_of (chain_of rules.chains name) is in
-    let stands = of_found _ (λ chain. list_all (rule_stands rules) chain.rules) rules.chains here.0 here.1 filters.sound.rules_stand in
-    let are = of_found _ (λ chain. are_plain chain.rules) rules.chains here.0 here.1 filters.plain in
-    let run = chain_so rules leaving packet filters links here.0.rules stands are
-    (λ to among there. call_so rules leaving packet filters links to there (λ n path. (let more = short (suc n) (link here.1 among path) in omega arith))) in
-    let called : run_called (run_rules (look rules leaving packet) (calls rules leaving packet links)) (chain_of rules.chains name) ≡ run_rules (look rules leaving packet) (calls rules leaving packet links) here.0.rules = ap (run_called (run_rules (look rules leaving packet) (calls rules leaving packet links))) here.1 in
-    record { chain = here.0; found = here.1; runs = subst (λ seen. IsRun rules leaving packet here.0.rules seen) (sym called) run }
+    let stands = of_found _ (λ chain. list_all (rule_stands rules) chain.rules) rules.chains here.0 here.1 sound.rules_stand in
+    let runs = rules_so rules leaving packet (calls rules leaving packet links) here.0.rules
+    (λ to among. call_so rules leaving packet sound links to (rules_there rules sound.maps_stand here.0.rules stands to among) (λ n path. (let more = short (suc n) (link here.1 among path) in omega arith))) in
+    let called : run_called (run_rules (holds rules leaving packet) (act rules leaving packet (calls rules leaving packet links))) (chain_of rules.chains name) ≡ run rules leaving packet links here.0.rules = ap (run_called (run rules leaving packet links)) here.1 in
+    record { chain = here.0; found = here.1; runs = subst (λ step. IsRun rules leaving packet here.0.rules step) (sym called) runs }
+
+-- rules that stand run with 16 links
+pub base_runs : (rules : Ruleset) (leaving : Option (List ℕ)) (packet : Packet) → SoundRules rules → (chain : Chain) → chain_of rules.chains chain.name ≡ Some chain → list_all (rule_stands rules) chain.rules ≡ true → IsRun rules leaving packet chain.rules (run rules leaving packet 16 chain.rules)
+base_runs rules leaving packet sound chain found stands =
+    rules_so rules leaving packet (calls rules leaving packet 16) chain.rules
+    (λ to among. call_so rules leaving packet sound 16 to (rules_there rules sound.maps_stand chain.rules stands to among) (λ n path. sound.short chain.name (suc n) (link found among path)))

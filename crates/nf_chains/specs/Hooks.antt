@@ -8,6 +8,7 @@ use Rattle.std.specs.declared.cmp.Ordering.{Ordering}
 use Rattle.fw_addr.specs.Subnets.{in_net}
 use Rattle.fw_addr.specs.declared.addr.Addr.{Addr}
 use Rattle.fw_addr.specs.declared.dnat.Dnat.{Dnat}
+use Rattle.fw_addr.specs.declared.packet.CtState.TheVariants as state
 use Rattle.fw_model.specs.declared.outcome.Outcome.{Outcome}
 use Rattle.fw_model.specs.declared.outcome.Verdict.{Verdict}
 use Rattle.fw_model.specs.declared.outcome.Verdict.TheVariants as verdict
@@ -16,6 +17,7 @@ use Rattle.fw_model.specs.declared.packet.Origin.TheVariants as origin
 use Rattle.fw_model.specs.declared.packet.Packet.{Packet}
 use Rattle.fw_model.specs.declared.packet.Via.{Via}
 use Rattle.fw_model.specs.declared.packet.Via.TheVariants as via
+use Rattle.nf_eval.specs.Tests.{is_same_state}
 use Rattle.nf_rules.specs.declared.chain.Base.{Base}
 use Rattle.nf_rules.specs.declared.chain.Chain.{Chain}
 use Rattle.nf_rules.specs.declared.chain.ChainKind.{ChainKind}
@@ -80,7 +82,12 @@ is_accept verdict.Accept = true
 is_accept verdict.Drop = false
 is_accept (verdict.Reject kind) = false
 
--- A packet meets the base chains at a hook, from behind one on. Each has to accept it; what one refuses meets no other.
+-- A packet begins a connection.
+abbrev pub is_new : Packet → Bool
+is_new packet = is_same_state packet.state state.New
+
+-- A packet meets the base chains at a hook, from behind one on. Each has to accept it; what one refuses meets no other. Those of kind
+-- nat are met by packets that begin a connection alone.
 pub data Meets (rules : Ruleset) (leaving : Option (List ℕ)) (wanted : Hook) : Option Chain → Moment → Verdict → Moment → Type 0 where
   passed : {last : Option Chain} {now : Moment}
       → next_at wanted last rules.chains ≡ None
@@ -96,6 +103,26 @@ pub data Meets (rules : Ruleset) (leaving : Option (List ℕ)) (wanted : Hook) :
       → is_filter chain.base ≡ true
       → Ends rules leaving [] chain.rules [] now chosen end
       → is_accept chosen ≡ false
+      → Meets rules leaving wanted last now chosen end
+  translated : {last : Option Chain} {chain : Chain} {now next end : Moment} {chosen : Verdict}
+      → next_at wanted last rules.chains ≡ Some chain
+      → is_filter chain.base ≡ false
+      → is_new now.packet ≡ true
+      → Ends rules leaving [] chain.rules [] now verdict.Accept next
+      → Meets rules leaving wanted (Some chain) next chosen end
+      → Meets rules leaving wanted last now chosen end
+  held_back : {last : Option Chain} {chain : Chain} {now end : Moment} {chosen : Verdict}
+      → next_at wanted last rules.chains ≡ Some chain
+      → is_filter chain.base ≡ false
+      → is_new now.packet ≡ true
+      → Ends rules leaving [] chain.rules [] now chosen end
+      → is_accept chosen ≡ false
+      → Meets rules leaving wanted last now chosen end
+  passed_by : {last : Option Chain} {chain : Chain} {now end : Moment} {chosen : Verdict}
+      → next_at wanted last rules.chains ≡ Some chain
+      → is_filter chain.base ≡ false
+      → is_new now.packet ≡ false
+      → Meets rules leaving wanted (Some chain) now chosen end
       → Meets rules leaving wanted last now chosen end
 
 -- a hook, and the interface by which the packet leaves, where that is known there

@@ -1,7 +1,10 @@
 pub mod Condition
+pub mod Courses
 pub mod Evaluation
 pub mod Hooks
 pub mod Laws
+pub mod Maps
+pub mod Marks
 pub mod Moments
 pub mod Rejects
 pub mod Runs

@@ -1,10 +1,11 @@
 -- A packet at one moment of its way through a ruleset.
-use Rattle.std.specs.Prelude.{ℕ, suc, List, [], ◌∷◌, ◌++◌, Bool, false, Option, None}
+use Rattle.std.specs.Prelude.{ℕ, suc, List, [], ◌∷◌, ◌++◌, Bool, true, false, Option, None, Some}
 use Rattle.fw_addr.specs.declared.dnat.Dnat.{Dnat}
 use Rattle.fw_addr.specs.declared.log.LogLine.{LogLine}
 use Rattle.fw_model.specs.declared.outcome.Outcome.{Outcome}
 use Rattle.fw_model.specs.declared.outcome.Verdict.{Verdict}
 use Rattle.fw_model.specs.declared.packet.Packet.{Packet}
+use Rattle.nf_chains.specs.Marks.{marked, translated}
 
 pub record Moment : Type 0 where
   -- the packet as it is now
@@ -28,6 +29,18 @@ logging line now = record now { logs = now.logs ++ line ∷ [] }
 -- one rule more
 abbrev pub looking : Moment → Moment
 looking now = record now { looked_at = suc now.looked_at }
+
+-- another mark
+abbrev pub marking : (value mask : ℕ) → Moment → Moment
+marking value mask now = record now { packet = record now.packet { mark = marked value mask now.packet.mark } }
+
+-- another destination
+abbrev pub translating : Dnat → Moment → Moment
+translating dnat now = record now { packet = translated dnat now.packet; dnat = Some dnat }
+
+-- to leave with the host's own address
+abbrev pub masquerading : Moment → Moment
+masquerading now = record now { masquerade = true }
 
 abbrev pub outcome_of : Verdict → Moment → Outcome
 outcome_of verdict now = record { verdict = verdict; mark = now.packet.mark; dnat = now.dnat; masquerade = now.masquerade; logs = now.logs }

@@ -1,8 +1,9 @@
 //! What a ruleset makes of a packet.
 ghost use Rattle.std.specs.Prelude.{◌≡◌, ℕ, ◌+◌, ◌<◌, [], IfOk, OnOk, unwrap_or};
-ghost use Rattle.nf_chains.specs.Condition.{FiltersAlone};
+ghost use Rattle.nf_sound.specs.Sound.{SoundRules};
 ghost use Rattle.nf_chains.specs.Hooks.{Eval, HasVerdict, Visits};
 
+use crate::course::Course;
 use crate::way::evaluated;
 use fw_addr::LogLine;
 use fw_base::{Memory, Seq};
@@ -15,10 +16,10 @@ use std::sync::ledger::{Blank, Ledger};
 
 /// What the ruleset makes of the packet. Each rule that is looked at is a step.
 ///
-/// The ruleset is sound, and its chains filter: none is of kind nat, no rule marks or translates, and there's no map. A packet
-/// that came by an interface meets the base chains at prerouting, and then, by its routes, those at input, or those at forward and
-/// postrouting; a packet of the host those at output and postrouting. Those of one hook run by ascending priority, and of equal
-/// priority by name.
+/// A packet that came by an interface meets the base chains at prerouting, and then, by its routes, those at input, or those at
+/// forward and postrouting; a packet of the host those at output and postrouting. Those of one hook run by ascending priority, and
+/// of equal priority by name; those of kind nat are met by packets of state new alone. Routing is by the destination that rules have
+/// made, and a translation without an address sends the packet to the host.
 ///
 /// Refuses for want of memory alone, where lines are logged.
 pub fn eval<L: Ledger>(
@@ -27,17 +28,18 @@ pub fn eval<L: Ledger>(
     packet: &Packet,
     steps: &mut Steps<L>,
 ) -> Result<Outcome, Memory>
-    requires { FiltersAlone rules.now }
+    requires { SoundRules rules.now }
     ensures outcome { IfOk result (λ outcome. Eval rules.now packet.now outcome) }
     ensures visits { OnOk result ((looked : ℕ) × Visits rules.now packet.now looked × (steps.new ≡ steps.old + looked)) }
 {
+    let mut course = Course::of(packet);
     let mut journal = Some(Seq::new(alloc));
-    let verdict = evaluated(rules, packet, &mut journal, steps)?;
+    let verdict = evaluated(rules, packet, &mut course, &mut journal, steps)?;
     Ok(Outcome {
         verdict,
-        mark: packet.mark,
-        dnat: None,
-        masquerade: false,
+        mark: course.parts.mark,
+        dnat: course.translation,
+        masquerade: course.masquerade,
         logs: lines_of(alloc, journal),
     })
 }
@@ -54,22 +56,23 @@ fn lines_of(alloc: Global, journal: Option<Seq<LogLine>>) -> Seq<LogLine>
 
 /// The verdict that the ruleset gives the packet, for a caller that asks for neither lines nor steps. It takes no memory.
 pub fn eval_verdict(rules: &Ruleset, packet: &Packet) -> Verdict
-    requires { FiltersAlone rules.now }
+    requires { SoundRules rules.now }
     ensures { HasVerdict rules.now packet.now result }
 {
     verdict_from::<Brand>(rules, packet, Blank::new(1))
 }
 
 fn verdict_from<L: Ledger>(rules: &Ruleset, packet: &Packet, blank: Blank) -> Verdict
-    requires filters { FiltersAlone rules.now }
+    requires sound { SoundRules rules.now }
     requires name { blank.name ≡ L.name }
     requires parts { blank.parts ≡ L.parts }
     requires some { 0 < blank.parts }
     ensures { HasVerdict rules.now packet.now result }
 {
     let mut steps = Steps::<L>::of(blank);
+    let mut course = Course::of(packet);
     let mut journal = None;
-    match evaluated(rules, packet, &mut journal, &mut steps) {
+    match evaluated(rules, packet, &mut course, &mut journal, &mut steps) {
         Ok(verdict) => verdict,
         Err(Memory) => unreachable!(),
     }
@@ -79,7 +82,7 @@ fn verdict_from<L: Ledger>(rules: &Ruleset, packet: &Packet, blank: Blank) -> Ve
 ///
 /// Refuses for want of memory alone, where lines are logged.
 pub fn eval_uncounted(alloc: Global, rules: &Ruleset, packet: &Packet) -> Result<Outcome, Memory>
-    requires { FiltersAlone rules.now }
+    requires { SoundRules rules.now }
     ensures { IfOk result (λ outcome. Eval rules.now packet.now outcome) }
 {
     eval_from::<Brand>(alloc, rules, packet, Blank::new(1))
@@ -91,7 +94,7 @@ fn eval_from<L: Ledger>(
     packet: &Packet,
     blank: Blank,
 ) -> Result<Outcome, Memory>
-    requires filters { FiltersAlone rules.now }
+    requires sound { SoundRules rules.now }
     requires name { blank.name ≡ L.name }
     requires parts { blank.parts ≡ L.parts }
     requires some { 0 < blank.parts }

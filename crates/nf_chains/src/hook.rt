@@ -2,17 +2,18 @@
 ghost use Rattle.std.specs.Prelude.{◌≡◌, length, option_copied};
 ghost use Rattle.std.specs.Option.{option_map};
 ghost use Rattle.nf_sound.specs.Names.{AreByName};
-ghost use Rattle.nf_chains.specs.Hooks.{first_of, is_accept, is_at, next_at, priority, runs_before, runs_behind};
-ghost use Rattle.nf_chains.specs.Runs.{Answers, meet_all};
-ghost use Rattle.nf_chains.specs.Scenes.{leaving_of};
+ghost use Rattle.nf_chains.specs.Hooks.{first_of, is_accept, is_at, is_filter, is_new, next_at, priority, runs_before, runs_behind};
+ghost use Rattle.nf_chains.specs.Runs.{Answers, is_met};
+ghost use Rattle.nf_chains.specs.Scenes.{meet_all_in, meet_one_in};
 
+use crate::course::Course;
 use crate::run::run_base;
 use crate::scene::Scene;
-use fw_addr::LogLine;
+use fw_addr::{CtState, LogLine};
 use fw_base::{Memory, Seq};
-use fw_model::Verdict;
+use fw_model::{Packet, Verdict};
 use fw_steps::Steps;
-use nf_rules::{Base, Chain, Hook};
+use nf_rules::{Base, Chain, ChainKind, Hook};
 use std::sync::ledger::Ledger;
 
 fn is_at(wanted: Hook, base: Option<Base>) -> bool
@@ -92,16 +93,58 @@ pub fn is_accept(verdict: Verdict) -> bool
     }
 }
 
-/// What the base chains at a hook make of the packet, one after another, until one refuses it.
-pub fn meet_all<L: Ledger>(
+/// Whether a base chain filters. The others translate.
+fn is_filter(base: Option<Base>) -> bool
+    ensures { result ≡ is_filter base }
+{
+    match base {
+        Some(base) => base.kind == ChainKind::Filter,
+        None => false,
+    }
+}
+
+/// Whether a packet begins a connection.
+fn is_new(packet: &Packet) -> bool
+    ensures { result ≡ is_new packet.now }
+{
+    packet.state == CtState::New
+}
+
+/// Whether a packet meets a base chain: one that translates is met by packets that begin a connection alone.
+fn is_met(packet: &Packet, base: Option<Base>) -> bool
+    ensures { result ≡ is_met packet.now base }
+{
+    is_filter(base) || is_new(packet)
+}
+
+/// What a base chain makes of the packet, where it meets it.
+fn meet_one<L: Ledger>(
     scene: &Scene<'_>,
-    wanted: Hook,
+    chain: &Chain,
+    course: &mut Course,
     journal: &mut Option<Seq<LogLine>>,
     steps: &mut Steps<L>,
 ) -> Result<Verdict, Memory>
     requires { AreByName scene.now.rules.now }
-    ensures { Answers result (meet_all scene.now.rules.now (leaving_of scene.now) scene.now.packet.now wanted)
-        journal.old journal.new steps.old steps.new }
+    ensures { Answers result (meet_one_in scene.now chain.now) course.old course.new journal.old journal.new steps.old steps.new }
+{
+    if is_met(scene.packet, chain.base) {
+        run_base(scene, chain, course, journal, steps)
+    } else {
+        Ok(Verdict::Accept)
+    }
+}
+
+/// What the base chains at a hook make of the packet, one after another, until one refuses it.
+pub fn meet_all<L: Ledger>(
+    scene: &Scene<'_>,
+    wanted: Hook,
+    course: &mut Course,
+    journal: &mut Option<Seq<LogLine>>,
+    steps: &mut Steps<L>,
+) -> Result<Verdict, Memory>
+    requires { AreByName scene.now.rules.now }
+    ensures { Answers result (meet_all_in scene.now wanted) course.old course.new journal.old journal.new steps.old steps.new }
 {
     let chains = scene.rules.chains.as_slice();
     let mut last = None;
@@ -109,7 +152,7 @@ pub fn meet_all<L: Ledger>(
         let Some(chain) = next_at(chains, wanted, last) else {
             return Ok(Verdict::Accept);
         };
-        let verdict = run_base(scene, chain, journal, steps)?;
+        let verdict = meet_one(scene, chain, course, journal, steps)?;
         if !is_accept(verdict) {
             return Ok(verdict);
         }

@@ -1,23 +1,12 @@
 //! Lines that are logged, where somebody asks for them.
 ghost use Rattle.std.specs.Prelude.{◌≡◌, [], ◌∷◌, ◌++◌, MatchResult, OnOk, is_some, true};
-ghost use Rattle.nf_chains.specs.Runs.{line_of, noted};
+ghost use Rattle.nf_chains.specs.Runs.{noted};
 
 use fw_addr::LogLine;
 use fw_base::{Memory, Seq};
-use nf_rules::Stmt;
 
-/// Keeps the line of a log statement.
-pub fn note(journal: &mut Option<Seq<LogLine>>, statement: &Stmt) -> Result<(), Memory>
-    ensures { MatchResult result (λ done. journal.new ≡ noted (line_of statement.now) journal.old)
-        (λ error. is_some journal.old ≡ true) }
-{
-    match statement {
-        Stmt::Log(line) => note_line(journal, line),
-        _ => Ok(()),
-    }
-}
-
-fn note_line(journal: &mut Option<Seq<LogLine>>, line: &LogLine) -> Result<(), Memory>
+/// Keeps a line.
+pub fn note(journal: &mut Option<Seq<LogLine>>, line: &LogLine) -> Result<(), Memory>
     ensures { MatchResult result (λ done. journal.new ≡ noted (line.now ∷ []) journal.old)
         (λ error. is_some journal.old ≡ true) }
 {

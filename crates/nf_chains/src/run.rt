@@ -1,17 +1,19 @@
 //! The way of a packet through the rules of a chain and the chains that it leads to.
-ghost use Rattle.std.specs.Prelude.{◌≡◌, MatchResult, is_some, option_copied, true};
-ghost use Rattle.nf_chains.specs.Rejects.{can_reject};
+ghost use Rattle.std.specs.Prelude.{◌≡◌, option_copied};
 ghost use Rattle.nf_sound.specs.Names.{AreByName};
-ghost use Rattle.nf_chains.specs.Runs.{Answers, Tells, decides, first_deciding, follow, one_rule};
-ghost use Rattle.nf_chains.specs.Scenes.{calls_in, look_in, run_base_in, run_in};
+ghost use Rattle.nf_chains.specs.Runs.{Answers, after_jump, giving, leading, one_rule, run_statements};
+ghost use Rattle.nf_chains.specs.Scenes.{act_in, calls_in, holds_in, run_base_in, run_in};
 
-use crate::flow::Flow;
+use crate::course::Course;
+use crate::effect::{can_translate, mark, masquerade, reject, translate};
+use crate::flow::{Flow, Next};
 use crate::journal::note;
+use crate::map::{led_dst, led_in, led_out, led_src};
 use crate::scene::Scene;
 use crate::test::all_hold;
-use fw_addr::{LogLine, RejectType, TCP};
-use fw_base::{Memory, Seq, Text};
-use fw_model::{Packet, Verdict};
+use fw_addr::LogLine;
+use fw_base::{Memory, Seq};
+use fw_model::Verdict;
 use fw_steps::Steps;
 use nf_rules::{Chain, Rule, Stmt};
 use nf_sound::{MAX_LINKS, chain_called};
@@ -21,72 +23,23 @@ use std::sync::ledger::Ledger;
 pub fn run_base<L: Ledger>(
     scene: &Scene<'_>,
     chain: &Chain,
+    course: &mut Course,
     journal: &mut Option<Seq<LogLine>>,
     steps: &mut Steps<L>,
 ) -> Result<Verdict, Memory>
     requires { AreByName scene.now.rules.now }
-    ensures { Answers result (run_base_in scene.now chain.now) journal.old journal.new steps.old steps.new }
+    ensures { Answers result (run_base_in scene.now chain.now) course.old course.new journal.old journal.new steps.old steps.new }
 {
-    match run(scene, chain.rules.as_slice(), MAX_LINKS, journal, steps)? {
+    match run(
+        scene,
+        chain.rules.as_slice(),
+        MAX_LINKS,
+        course,
+        journal,
+        steps,
+    )? {
         Flow::Back => Ok(Verdict::Accept),
         Flow::Ended(verdict) => Ok(verdict),
-    }
-}
-
-/// Whether a reject with this type can answer the packet.
-fn can_reject(kind: RejectType, packet: &Packet) -> bool
-    ensures { result ≡ can_reject kind packet.now }
-{
-    match kind {
-        RejectType::TcpReset => packet.proto.0 == TCP,
-        _ => true,
-    }
-}
-
-/// Whether a statement decides what becomes of the packet.
-fn decides(packet: &Packet, statement: &Stmt) -> bool
-    ensures { result ≡ decides packet.now statement.now }
-{
-    match statement {
-        Stmt::Accept | Stmt::Drop | Stmt::Jump(_) | Stmt::Goto(_) | Stmt::Return => true,
-        Stmt::Reject(kind) => can_reject(*kind, packet),
-        _ => false,
-    }
-}
-
-/// The first statement that decides. Lines of those before it are kept.
-fn first_deciding<'a>(
-    packet: &Packet,
-    statements: &'a [Stmt],
-    journal: &mut Option<Seq<LogLine>>,
-) -> Result<Option<&'a Stmt>, Memory>
-    ensures { MatchResult result
-        (λ found. Tells (option_copied found) (first_deciding packet.now statements.now) journal.old journal.new 0 0)
-        (λ error. is_some journal.old ≡ true) }
-{
-    for statement in statements {
-        if decides(packet, statement) {
-            return Ok(Some(statement));
-        }
-        note(journal, statement)?;
-    }
-    Ok(None)
-}
-
-/// The statement of a rule that decides, where all of its matches hold.
-fn look<'a>(
-    scene: &Scene<'_>,
-    rule: &'a Rule,
-    journal: &mut Option<Seq<LogLine>>,
-) -> Result<Option<&'a Stmt>, Memory>
-    ensures { MatchResult result
-        (λ found. Tells (option_copied found) (look_in scene.now rule.now) journal.old journal.new 0 0)
-        (λ error. is_some journal.old ≡ true) }
-{
-    if all_hold(scene, rule.matches.as_slice()) {
-        first_deciding(scene.packet, rule.stmts.as_slice(), journal)
-    } else {
-        Ok(None)
     }
 }
 
@@ -96,14 +49,15 @@ fn run<L: Ledger>(
     scene: &Scene<'_>,
     list: &[Rule],
     links: u8,
+    course: &mut Course,
     journal: &mut Option<Seq<LogLine>>,
     steps: &mut Steps<L>,
 ) -> Result<Flow, Memory>
     requires { AreByName scene.now.rules.now }
-    ensures { Answers result (run_in scene.now links list.now) journal.old journal.new steps.old steps.new }
+    ensures { Answers result (run_in scene.now links list.now) course.old course.new journal.old journal.new steps.old steps.new }
 {
     for rule in list {
-        if let Some(flow) = one_rule(scene, rule, links, journal, steps)? {
+        if let Some(flow) = one_rule(scene, rule, links, course, journal, steps)? {
             return Ok(flow);
         }
     }
@@ -116,44 +70,143 @@ fn one_rule<L: Ledger>(
     scene: &Scene<'_>,
     rule: &Rule,
     links: u8,
+    course: &mut Course,
     journal: &mut Option<Seq<LogLine>>,
     steps: &mut Steps<L>,
 ) -> Result<Option<Flow>, Memory>
     requires { AreByName scene.now.rules.now }
-    ensures { Answers result (one_rule (look_in scene.now) (calls_in scene.now links) rule.now)
-        journal.old journal.new steps.old steps.new }
+    ensures { Answers result (one_rule (holds_in scene.now) (act_in scene.now links) rule.now)
+        course.old course.new journal.old journal.new steps.old steps.new }
 {
     steps.tick();
-    match look(scene, rule, journal)? {
-        Some(statement) => follow(scene, statement, links, journal, steps),
-        None => Ok(None),
+    if all_hold(scene, course, rule.matches.as_slice()) {
+        run_statements(scene, rule.stmts.as_slice(), links, course, journal, steps)
+    } else {
+        Ok(None)
     }
 }
 
-/// What a statement that decides does. None: the next rule goes on.
+/// The statements of a rule, one after another, until one decides. None: the next rule goes on.
 #[cycle(run)]
-fn follow<L: Ledger>(
+fn run_statements<L: Ledger>(
     scene: &Scene<'_>,
-    statement: &Stmt,
+    statements: &[Stmt],
     links: u8,
+    course: &mut Course,
     journal: &mut Option<Seq<LogLine>>,
     steps: &mut Steps<L>,
 ) -> Result<Option<Flow>, Memory>
     requires { AreByName scene.now.rules.now }
-    ensures { Answers result (follow (calls_in scene.now links) statement.now)
-        journal.old journal.new steps.old steps.new }
+    ensures { Answers result (run_statements (act_in scene.now links) statements.now)
+        course.old course.new journal.old journal.new steps.old steps.new }
+{
+    for statement in statements {
+        match act(scene, statement, links, course, journal, steps)? {
+            Next::Statement => {}
+            Next::Rule => return Ok(None),
+            Next::Over(flow) => return Ok(Some(flow)),
+        }
+    }
+    Ok(None)
+}
+
+/// What a statement does.
+#[cycle(run)]
+fn act<L: Ledger>(
+    scene: &Scene<'_>,
+    statement: &Stmt,
+    links: u8,
+    course: &mut Course,
+    journal: &mut Option<Seq<LogLine>>,
+    steps: &mut Steps<L>,
+) -> Result<Next, Memory>
+    requires { AreByName scene.now.rules.now }
+    ensures { Answers result (act_in scene.now links statement.now)
+        course.old course.new journal.old journal.new steps.old steps.new }
 {
     match statement {
-        Stmt::Accept => Ok(Some(Flow::Ended(Verdict::Accept))),
-        Stmt::Drop => Ok(Some(Flow::Ended(Verdict::Drop))),
-        Stmt::Reject(kind) => Ok(Some(Flow::Ended(Verdict::Reject(*kind)))),
-        Stmt::Return => Ok(Some(Flow::Back)),
-        Stmt::Jump(name) => match call(scene, name, links, journal, steps)? {
-            Flow::Back => Ok(None),
-            ended => Ok(Some(ended)),
-        },
-        Stmt::Goto(name) => Ok(Some(call(scene, name, links, journal, steps)?)),
-        _ => Ok(None),
+        Stmt::Accept => Ok(Next::Over(Flow::Ended(Verdict::Accept))),
+        Stmt::Drop => Ok(Next::Over(Flow::Ended(Verdict::Drop))),
+        Stmt::Reject(kind) => Ok(reject(*kind, scene.packet)),
+        Stmt::Return => Ok(Next::Over(Flow::Back)),
+        Stmt::Log(line) => {
+            note(journal, line)?;
+            Ok(Next::Statement)
+        }
+        Stmt::Mark(value, mask) => {
+            mark(course, *value, *mask);
+            Ok(Next::Statement)
+        }
+        Stmt::DnatTo(dnat) => {
+            if can_translate(dnat, scene.packet) {
+                translate(course, dnat);
+                Ok(Next::Over(Flow::Ended(Verdict::Accept)))
+            } else {
+                Ok(Next::Statement)
+            }
+        }
+        Stmt::Masquerade => {
+            masquerade(course);
+            Ok(Next::Over(Flow::Ended(Verdict::Accept)))
+        }
+        Stmt::Jump(name) => jump(scene, name.as_str(), links, course, journal, steps),
+        Stmt::Goto(name) => lead(scene, Some(name.as_str()), links, course, journal, steps),
+        Stmt::VmapIn(map) => {
+            let name = led_in(scene, map.as_str());
+            lead(scene, name, links, course, journal, steps)
+        }
+        Stmt::VmapOut(map) => {
+            let name = led_out(scene, map.as_str());
+            lead(scene, name, links, course, journal, steps)
+        }
+        Stmt::VmapSrc(map) => {
+            let name = led_src(scene, map.as_str());
+            lead(scene, name, links, course, journal, steps)
+        }
+        Stmt::VmapDst(map) => {
+            let name = led_dst(scene, course, map.as_str());
+            lead(scene, name, links, course, journal, steps)
+        }
+    }
+}
+
+/// To a chain, and behind it on with the next rule.
+#[cycle(run)]
+fn jump<L: Ledger>(
+    scene: &Scene<'_>,
+    name: &str,
+    links: u8,
+    course: &mut Course,
+    journal: &mut Option<Seq<LogLine>>,
+    steps: &mut Steps<L>,
+) -> Result<Next, Memory>
+    requires { AreByName scene.now.rules.now }
+    ensures { Answers result (giving after_jump (calls_in scene.now links name.now))
+        course.old course.new journal.old journal.new steps.old steps.new }
+{
+    match call(scene, name, links, course, journal, steps)? {
+        Flow::Back => Ok(Next::Rule),
+        ended => Ok(Next::Over(ended)),
+    }
+}
+
+/// To the chain of a name for good, or on with the next statement where there's no name.
+#[cycle(run)]
+fn lead<L: Ledger>(
+    scene: &Scene<'_>,
+    name: Option<&str>,
+    links: u8,
+    course: &mut Course,
+    journal: &mut Option<Seq<LogLine>>,
+    steps: &mut Steps<L>,
+) -> Result<Next, Memory>
+    requires { AreByName scene.now.rules.now }
+    ensures { Answers result (leading (calls_in scene.now links) (option_copied name.entry))
+        course.old course.new journal.old journal.new steps.old steps.new }
+{
+    match name {
+        Some(name) => Ok(Next::Over(call(scene, name, links, course, journal, steps)?)),
+        None => Ok(Next::Statement),
     }
 }
 
@@ -161,19 +214,28 @@ fn follow<L: Ledger>(
 #[cycle(run)]
 fn call<L: Ledger>(
     scene: &Scene<'_>,
-    name: &Text,
+    name: &str,
     links: u8,
+    course: &mut Course,
     journal: &mut Option<Seq<LogLine>>,
     steps: &mut Steps<L>,
 ) -> Result<Flow, Memory>
     requires { AreByName scene.now.rules.now }
-    ensures { Answers result (calls_in scene.now links name.now) journal.old journal.new steps.old steps.new }
+    ensures { Answers result (calls_in scene.now links name.now)
+        course.old course.new journal.old journal.new steps.old steps.new }
 {
     if links == 0 {
         return Ok(Flow::Back);
     }
-    match chain_called(scene.rules.chains.as_slice(), name.as_str()) {
-        Some(chain) => run(scene, chain.rules.as_slice(), links - 1, journal, steps),
+    match chain_called(scene.rules.chains.as_slice(), name) {
+        Some(chain) => run(
+            scene,
+            chain.rules.as_slice(),
+            links - 1,
+            course,
+            journal,
+            steps,
+        ),
         None => Ok(Flow::Back),
     }
 }

@@ -1,10 +1,11 @@
 //! A ruleset that is read line by line.
-use crate::packet::{outcome_text, packet_of, verdict_word};
+use crate::packet::{net_of, outcome_text, packet_of, verdict_word};
 use crate::rule::rule_of;
 use anyhow::Result;
+use fw_addr::{Iface, Net, read_iface};
 use fw_base::{Memory, Seq, Text};
 use fw_model::Packet;
-use nf_chains::{eval_uncounted, eval_verdict, filters_alone};
+use nf_chains::{eval_uncounted, eval_verdict};
 use nf_rules::{Base, Chain, ChainKind, Hook, MapBody, NfMap, NfSet, Rule, Ruleset, SetBody};
 use nf_sound::is_sound;
 use std::alloc::{AllocError, Global};
@@ -33,7 +34,8 @@ pub fn read_line(alloc: Global, rows: Ruleset, line: &str) -> Result<Ruleset, Me
             name: Text::of(alloc, name)?,
             body: SetBody::Nets(Seq::new(alloc)),
         })?,
-        Some(("map", rest)) => maps.push(map_of(alloc, rest)?)?,
+        Some(("nets", rest)) => maps.push(nets_of(alloc, rest)?)?,
+        Some(("ifaces", rest)) => maps.push(ifaces_of(alloc, rest)?)?,
         _ => {
             if line == "clear" {
                 return Ok(start(alloc));
@@ -94,19 +96,37 @@ fn priority_of(word: &str) -> i32 {
     word.parse().unwrap_or(0)
 }
 
-fn map_of(alloc: Global, words: &str) -> Result<NfMap, Memory> {
+/// The map of a name and keys that are nets.
+fn nets_of(alloc: Global, words: &str) -> Result<NfMap, Memory> {
     let mut parts = words.split_whitespace();
     let name = Text::of(alloc, parts.next().unwrap_or(""))?;
-    let mut pairs = Seq::new(alloc);
-    for target in parts {
-        pairs.push((
-            fw_addr::Net::new(fw_addr::Addr::V4(0), 0),
-            Text::of(alloc, target)?,
-        ))?;
+    let mut pairs: Seq<(Net, Text)> = Seq::new(alloc);
+    for word in parts {
+        if let Some((key, chain)) = word.split_once('=') {
+            pairs.push((net_of(key), Text::of(alloc, chain)?))?;
+        }
     }
     Ok(NfMap {
         name,
         body: MapBody::Nets(pairs),
+    })
+}
+
+/// The map of a name and keys that are links.
+fn ifaces_of(alloc: Global, words: &str) -> Result<NfMap, Memory> {
+    let mut parts = words.split_whitespace();
+    let name = Text::of(alloc, parts.next().unwrap_or(""))?;
+    let mut pairs: Seq<(Iface, Text)> = Seq::new(alloc);
+    for word in parts {
+        if let Some((key, chain)) = word.split_once('=')
+            && let Ok(entry) = read_iface(key)
+        {
+            pairs.push((entry, Text::of(alloc, chain)?))?;
+        }
+    }
+    Ok(NfMap {
+        name,
+        body: MapBody::Ifaces(pairs),
     })
 }
 
@@ -124,8 +144,7 @@ pub fn answer(alloc: Global, rows: &Ruleset, line: &str) -> Result<String, Alloc
 
 fn sound_text(alloc: Global, rows: &Ruleset) -> Result<String, AllocError> {
     let sound = is_sound(alloc, rows);
-    let filters = filters_alone(alloc, rows);
-    format!(in alloc; "sound={sound} filters={filters}")
+    format!(in alloc; "sound={sound}")
 }
 
 fn packet_text(alloc: Global, rows: &Ruleset, words: &str) -> Result<String, AllocError> {
@@ -133,12 +152,13 @@ fn packet_text(alloc: Global, rows: &Ruleset, words: &str) -> Result<String, All
     let from = parts.next().unwrap_or("");
     let to = parts.next().unwrap_or("");
     let proto = parts.next().unwrap_or("");
-    let packet = packet_of(alloc, from, to, proto).map_err(|_| AllocError)?;
+    let kind = parts.next().unwrap_or("");
+    let packet = packet_of(alloc, from, to, proto, kind).map_err(|_| AllocError)?;
     evaluated_text(alloc, rows, &packet)
 }
 
 fn evaluated_text(alloc: Global, rows: &Ruleset, packet: &Packet) -> Result<String, AllocError> {
-    if !filters_alone(alloc, rows) {
+    if !is_sound(alloc, rows) {
         return String::from_str(alloc, "not evaluated");
     }
     let verdict = verdict_word(eval_verdict(rows, packet));

@@ -1,8 +1,10 @@
 //! When the tests of rules hold of a packet.
 ghost use Rattle.std.specs.Prelude.{◌≡◌};
 ghost use Rattle.fw_addr.specs.Subnets.{family};
+ghost use Rattle.nf_eval.specs.Rewrites.{rewritten};
 ghost use Rattle.nf_eval.specs.Tests.{came_in_by, icmp_number, is_from, is_from_set, is_same_family, is_same_state, is_same_type, match_holds, test_holds};
 
+use crate::rewrite::Rewrite;
 use crate::sets::{holds_address, holds_mac, holds_port};
 use fw_addr::{Addr, CtState, Family, ICMP, ICMPV6, Iface, Mac, PktType};
 use fw_limit::is_within;
@@ -67,8 +69,9 @@ fn icmp_number(family: Family) -> u8
     }
 }
 
-fn test_holds(sets: &[NfSet], packet: &Packet, test: &Test) -> bool
-    ensures { result ≡ test_holds sets.now packet.now test.now }
+/// Whether a test holds of a packet with these parts.
+fn test_holds(sets: &[NfSet], packet: &Packet, parts: &Rewrite, test: &Test) -> bool
+    ensures { result ≡ test_holds sets.now (rewritten parts.now packet.now) test.now }
 {
     match test {
         Test::Family(family) => is_of(packet.src, *family),
@@ -77,28 +80,28 @@ fn test_holds(sets: &[NfSet], packet: &Packet, test: &Test) -> bool
         Test::Pkt(kind) => is_same_type(packet.pkt, *kind),
         Test::Out(_) => false,
         Test::Src(net) => net.contains(&packet.src),
-        Test::Dst(net) => net.contains(&packet.dst),
+        Test::Dst(net) => net.contains(&parts.dst),
         Test::SrcSet(name) => holds_address(sets, name.as_str(), &packet.src),
-        Test::DstSet(name) => holds_address(sets, name.as_str(), &packet.dst),
+        Test::DstSet(name) => holds_address(sets, name.as_str(), &parts.dst),
         Test::SrcMac(address) => is_from(*address, packet.mac),
         Test::SrcMacSet(name) => is_from_set(sets, name.as_str(), packet.mac),
         Test::Sport(proto, range) => packet.proto == proto.proto() && range.contains(packet.sport),
-        Test::Dport(proto, range) => packet.proto == proto.proto() && range.contains(packet.dport),
+        Test::Dport(proto, range) => packet.proto == proto.proto() && range.contains(parts.dport),
         Test::DportSet(proto, name) => {
-            packet.proto == proto.proto() && holds_port(sets, name.as_str(), packet.dport)
+            packet.proto == proto.proto() && holds_port(sets, name.as_str(), parts.dport)
         }
         Test::Icmp(family, number) => {
             packet.proto.0 == icmp_number(*family) && packet.icmp_type == *number
         }
         Test::State(state) => is_same_state(packet.state, *state),
-        Test::Dnat => packet.dnat,
+        Test::Dnat => parts.dnat,
         Test::Limit(limit) => is_within(limit, packet.limits.as_slice()),
     }
 }
 
-/// Whether a test holds, or with `not` whether it doesn't.
-pub fn match_holds(sets: &[NfSet], packet: &Packet, tested: &Match) -> bool
-    ensures { result ≡ match_holds sets.now packet.now tested.now }
+/// Whether a test holds, or with `not` whether it doesn't, of a packet whose parts that rules rewrite are now these.
+pub fn match_holds(sets: &[NfSet], packet: &Packet, parts: &Rewrite, tested: &Match) -> bool
+    ensures { result ≡ match_holds sets.now (rewritten parts.now packet.now) tested.now }
 {
-    test_holds(sets, packet, &tested.test) != tested.not
+    test_holds(sets, packet, parts, &tested.test) != tested.not
 }

@@ -7,7 +7,7 @@ mod tests;
 
 use anyhow::Result;
 use fw_model::Packet;
-use nf_eval::match_holds;
+use nf_eval::{Rewrite, match_holds};
 use nf_rules::{Match, NfSet};
 use packets::{echo, new_connection, sets};
 use std::alloc::Global;
@@ -38,9 +38,10 @@ fn held(alloc: Global, sets: &[NfSet], packet: &Packet, words: &str) -> &'static
         return "is no test";
     };
     let mut asked = Match { not: false, test };
-    let plain = match_holds(sets, packet, &asked);
+    let parts = Rewrite::of(packet);
+    let plain = match_holds(sets, packet, &parts, &asked);
     asked.not = true;
-    match (plain, match_holds(sets, packet, &asked)) {
+    match (plain, match_holds(sets, packet, &parts, &asked)) {
         (true, false) => "holds",
         (false, true) => "fails",
         (true, true) => "holds with and without not",

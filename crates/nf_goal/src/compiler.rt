@@ -1,5 +1,5 @@
 //! What makes rulesets of settings.
-ghost use Rattle.std.specs.Prelude.{◌≡◌, false, IfOk};
+ghost use Rattle.std.specs.Prelude.{IfOk};
 ghost use Rattle.fw_model.specs.declared.runtime.Runtime.{Runtime};
 ghost use Rattle.fw_valid.specs.Valid.{IsValid};
 ghost use Rattle.nf_goal.specs.Compiles.{Compiles};
@@ -15,13 +15,12 @@ pub trait Compiler {
     /// Which rulesets it makes of settings. That each of them `Compiles` the settings is owed beside it.
     ghost makes: { Self → Runtime → Ruleset → Type 0 };
 
-    /// The ruleset of a valid configuration, outside panic mode: sound, and for every packet its evaluation at the hooks is the
-    /// way of the packet through the firewall that firewalld's manuals tell.
+    /// The ruleset of valid settings: sound, and for every packet its evaluation at the hooks is the way of the packet through the
+    /// firewall that firewalld's manuals tell. In panic mode it drops them all.
     ///
     /// Refuses for want of memory alone.
     fn compile(&self, alloc: Global, runtime: &Runtime) -> Result<Ruleset, Memory>
-        requires valid { IsValid runtime.now.config }
-        requires no_panic { runtime.now.panic ≡ false }
+        requires { IsValid runtime.now.config }
         ensures made { IfOk result (λ rules. makes self.now runtime.now rules) }
         ensures compiles { IfOk result (λ rules. Compiles rules runtime.now) };
 }

@@ -25,7 +25,7 @@ pub behind : (name : List ℕ) (xs ys : List (List ℕ)) → IsIn name ys → Is
 behind name [] ys is = is
 behind name (x ∷ xs) ys is = inr (behind name xs ys is)
 
-in_one : (name : List ℕ) (xs ys : List (List ℕ)) → IsIn name (xs ++ ys) → IsIn name xs ⊎ IsIn name ys
+pub in_one : (name : List ℕ) (xs ys : List (List ℕ)) → IsIn name (xs ++ ys) → IsIn name xs ⊎ IsIn name ys
 in_one name [] ys is = inr is
 in_one name (x ∷ xs) ys (inl here) = inl (inl here)
 in_one name (x ∷ xs) ys (inr is) = elim (in_one name xs ys is) [ inl is ↦ inl (inr is) | inr is ↦ inr is ]

@@ -8,5 +8,5 @@ mod stands;
 mod target;
 
 pub use links::MAX_LINKS;
-pub use named::chain_called;
+pub use named::{chain_called, map_called};
 pub use sound::is_sound;

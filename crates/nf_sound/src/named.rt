@@ -2,7 +2,7 @@
 ghost use Rattle.std.specs.Prelude.{◌≡◌, ℕ, ◌↔◌, List, None, IsTrue, MatchOption, is_some, option_copied};
 ghost use Rattle.std.specs.Cmp.Lexicographic.{slice_cmp};
 ghost use Rattle.std.specs.Ordering.{is_lt, nat_cmp};
-ghost use Rattle.nf_sound.specs.Names.{IsByName, StandsAt, called, chain_of};
+ghost use Rattle.nf_sound.specs.Names.{IsByName, StandsAt, called, chain_of, map_of};
 
 use nf_rules::{Chain, NfMap, NfSet};
 
@@ -76,4 +76,12 @@ pub fn chain_called<'a>(chains: &'a [Chain], name: &str) -> Option<&'a Chain>
     ensures { option_copied result ≡ chain_of chains.now name.now }
 {
     Some(&chains[place_of(chains, name)?])
+}
+
+/// The map of a name, among maps that stand in order of their names. It is found by halves.
+pub fn map_called<'a>(maps: &'a [NfMap], name: &str) -> Option<&'a NfMap>
+    requires { IsByName (λ map. map.name) maps.now }
+    ensures { option_copied result ≡ map_of maps.now name.now }
+{
+    Some(&maps[place_of(maps, name)?])
 }

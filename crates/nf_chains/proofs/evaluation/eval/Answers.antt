@@ -5,9 +5,9 @@ use Rattle.nf_chains.proofs.evaluation.eval.Goals as goal
 
 pub returns-clause-outcome : goal.returns-clause-outcome
 returns-clause-outcome g c =
-    eval_told c.args.rules.now c.args.packet.now c.in_ok-verdict.verdict (Some c.new.result) c.evaluated.new.journal c.args.steps.now c.evaluated.new.steps c.lines_of.result
-    c.requires c.in_ok-verdict.ensures (ap Some c.new.ensures) c.lines_of.ensures
+    eval_told c.args.rules.now c.args.packet.now c.in_ok-verdict.verdict c.of-course.result c.evaluated.new.course (Some c.new.result) c.evaluated.new.journal c.args.steps.now c.evaluated.new.steps c.lines_of.result
+    c.requires c.in_ok-verdict.ensures c.of-course.ensures (ap Some c.new.ensures) c.lines_of.ensures
 
 pub returns-clause-visits : goal.returns-clause-visits
 returns-clause-visits g c =
-    visits_told c.args.rules.now c.args.packet.now c.in_ok-verdict.verdict (Some c.new.result) c.evaluated.new.journal c.args.steps.now c.evaluated.new.steps c.requires c.in_ok-verdict.ensures
+    visits_told c.args.rules.now c.args.packet.now c.in_ok-verdict.verdict c.of-course.result c.evaluated.new.course (Some c.new.result) c.evaluated.new.journal c.args.steps.now c.evaluated.new.steps c.requires c.in_ok-verdict.ensures c.of-course.ensures
