@@ -6,6 +6,7 @@ use super::{BindingKind, BindingVerb, Member, SettingKind, SignalKind, Verb, Zon
 use std::marker::Model;
 
 /// Types in a row, as a D-Bus signature (D-Bus Specification, "Type System"). Contracts see its letters.
+#[derive(Drop)]
 pub struct Letters {
     letters: &'static str,
 }
@@ -41,6 +42,7 @@ pub enum Signals {
 }
 
 /// A row of the table.
+#[derive(Drop)]
 pub struct Row {
     pub member: Member,
     /// The types of its arguments.

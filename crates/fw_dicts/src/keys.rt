@@ -89,7 +89,7 @@ fn field_at<'a>(fields: &'a [(Text, DictField)], key: &str) -> Option<&'a (Text,
 
 /// Whether a value is of a type.
 #[tactic(auto, unfolding(crate::specs::Keys::fits))]
-fn fits(shape: Shape, value: &DictField) -> bool
+pub fn fits(shape: Shape, value: &DictField) -> bool
     ensures { result ≡ fits shape value.now }
 {
     match shape {
@@ -158,7 +158,7 @@ fn have_width(width: usize, rows: &[Seq<Text>]) -> bool
 }
 
 /// The type of a key's value, if the key is known.
-fn shape_of(owner: Owner, key: &str) -> Option<Shape>
+pub fn shape_of(owner: Owner, key: &str) -> Option<Shape>
     ensures { result ≡ shape_of owner key.now }
 {
     match owner {

@@ -35,3 +35,14 @@ set_kept settings found set (Ok answer) at kept = kept
 set_kept settings found set (Err error) at kept =
     ap (λ s. with_set settings found.place s) kept
     ∙ ap (λ sets. with_ipsets settings sets) (set_as_it_was settings.runtime.config.ipsets found.place found.set at)
+
+-- a call that only asks leaves the settings as they are
+pub set_asked : (settings : Settings) (name : List ℕ) (act : IpSet → Result (Answered IpSet) Refusal) (found : Found) (answer : Answer) → look_up settings.runtime.config name ≡ Ok found
+    → slice_get settings.runtime.config.ipsets found.place ≡ Some found.set → act found.set ≡ Ok (record { signals = answer.signals; reply = answer.reply; after = found.set })
+    → in_set settings name act ≡ Ok (record { signals = answer.signals; reply = answer.reply; after = settings })
+set_asked settings name act found answer meant at is =
+    found_in settings name act found (Ok (record { signals = answer.signals; reply = answer.reply; after = found.set })) meant is
+    ∙ ap told (ap (λ sets. with_ipsets settings sets) (set_as_it_was settings.runtime.config.ipsets found.place found.set at))
+  where
+    told : Settings → Result (Answered Settings) Refusal
+    told after = Ok (record { signals = answer.signals; reply = answer.reply; after = after })

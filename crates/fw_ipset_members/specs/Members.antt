@@ -1,9 +1,11 @@
 -- Members on ipsets (firewalld.dbus(5), interface `org.fedoraproject.FirewallD1.ipset`; the refusals of `getEntries` are this project's
 -- own).
-use Rattle.std.specs.Prelude.{ℕ, List, map, Result, Ok, slice_set}
+use Rattle.std.specs.Prelude.{ℕ, Bool, true, false, List, map, Result, Ok, slice_set}
 use Rattle.fw_act.specs.Acts.{Answered, ◌>>=◌, found_or, replied}
 use Rattle.fw_calls.specs.declared.call.IpsetCall.{IpsetCall}
 use Rattle.fw_calls.specs.declared.call.IpsetCall.TheVariants as call
+use Rattle.fw_calls.specs.declared.member.Verb.{Verb}
+use Rattle.fw_calls.specs.declared.member.Verb.TheVariants as verb
 use Rattle.fw_calls.specs.declared.reply.Refusal.{Refusal}
 use Rattle.fw_calls.specs.declared.reply.Reply.TheVariants as reply
 use Rattle.fw_model.specs.declared.code.Code.TheVariants as code
@@ -39,3 +41,16 @@ ipset_member settings (call.Entries name) = do
   found ← look_up settings.runtime.config name
   Ok (replied settings (reply.Texts (map item_text found.set.items)))
 ipset_member settings (call.SetEntries name texts) = in_set settings name (set_entries texts)
+
+-- whether a call only asks
+abbrev pub is_query : Verb → Bool
+is_query verb.Add = false
+is_query verb.Remove = false
+is_query verb.Query = true
+
+unfoldable pub asks : IpsetCall → Bool
+asks call.Ipsets = true
+asks (call.HasIpset name) = true
+asks (call.Entry verb name text) = is_query verb
+asks (call.Entries name) = true
+asks (call.SetEntries name texts) = false

@@ -23,7 +23,7 @@ pub fn entry_call(alloc: Global, set: &mut IpSet, verb: Verb, text: &str) -> Res
     match verb {
         Verb::Add => add_entry(alloc, set, item),
         Verb::Remove => remove_entry(alloc, set, item),
-        Verb::Query => query_entry(alloc, set, item),
+        Verb::Query => Ok(query_entry(alloc, set, &item)),
     }
 }
 
@@ -77,11 +77,12 @@ fn remove_or_refuse(alloc: Global, set: &mut IpSet, item: Item) -> Result<(), St
     }
 }
 
-fn query_entry(alloc: Global, set: &IpSet, item: Item) -> Result<Answer, Stop>
-    ensures { Acts set.now result (entry_answered set.now Verb.Query item) }
+/// Whether an ipset has an entry.
+pub fn query_entry(alloc: Global, set: &IpSet, item: &Item) -> Answer
+    ensures { Ok (record { signals = result.signals; reply = result.reply; after = set.now }) ≡ entry_answered set.now Verb.Query item.now }
 {
-    let is_there = holds(set, &item);
-    Ok(replied(alloc, Reply::Bool(is_there)))
+    let is_there = holds(set, item);
+    replied(alloc, Reply::Bool(is_there))
 }
 
 /// A signal with an ipset's name and an entry, and a reply without a value.

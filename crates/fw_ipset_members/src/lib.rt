@@ -11,4 +11,4 @@ mod replace;
 mod texts;
 mod told;
 
-pub use member::ipset_member;
+pub use member::{ask_ipset, ipset_member};

@@ -1,6 +1,6 @@
 -- What an event is to do, as a proposal says it (this project's own): nothing where nothing would change, a save exactly where the
 -- permanent settings would change, and a commit exactly where the settings in force would.
-use Rattle.std.specs.Prelude.{◌≡◌, ◌≢◌, ◌↔◌, IsNone, IsTrue, Result, Ok, Err}
+use Rattle.std.specs.Prelude.{◌≡◌, ◌↔◌, false, IsNone, Result, Ok, Err}
 use Rattle.fw_act.specs.Acts.{Answered, replied}
 use Rattle.fw_calls.specs.declared.reply.Refusal.{Refusal}
 use Rattle.fw_calls.specs.declared.reply.Reply.TheVariants as reply
@@ -18,5 +18,5 @@ pub record Proposes (settings : Settings) (answered : Answered Settings) (propos
   pub signals : proposal.signals ≡ answered.signals
   pub next : next_settings settings proposal ≡ answered.after
   pub change : IsNone proposal.next ↔ (answered.after ≡ settings)
-  pub save : IsTrue proposal.needs_save ↔ (answered.after.permanent ≢ settings.permanent)
-  pub commit : IsTrue proposal.needs_commit ↔ (answered.after.runtime ≢ settings.runtime)
+  pub save : (proposal.needs_save ≡ false) ↔ (answered.after.permanent ≡ settings.permanent)
+  pub commit : (proposal.needs_commit ≡ false) ↔ (answered.after.runtime ≡ settings.runtime)

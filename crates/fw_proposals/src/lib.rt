@@ -4,5 +4,5 @@
 mod proposing;
 mod settings;
 
-pub use proposing::{propose, propose_refusal};
+pub use proposing::{propose, propose_refusal, propose_unchanged};
 pub use settings::same_settings;

@@ -4,8 +4,7 @@ ghost use Rattle.std.specs.Option.{unwrap_or};
 ghost use Rattle.fw_proposals.specs.Proposals.{Proposes, or_refused};
 
 use crate::settings::same_settings;
-use fw_act::Answer;
-use fw_base::Seq;
+use fw_act::{Answer, replied};
 use fw_calls::{Refusal, Reply};
 use fw_same::{same_config, same_runtime};
 use fw_settings::{Proposal, Settings};
@@ -41,15 +40,23 @@ fn changed(settings: &Settings, after: Settings) -> Option<Settings>
     }
 }
 
-/// A refusal is answered, and nothing is to be done. It takes no memory.
-pub fn propose_refusal(alloc: Global, settings: &Settings, refusal: Refusal) -> Proposal
-    ensures { Proposes settings.entry.now (or_refused settings.entry.now (Err refusal)) result }
+/// What is to be done of an answer that leaves the settings as they are: nothing. It takes no memory.
+pub fn propose_unchanged(settings: &Settings, answer: Answer) -> Proposal
+    ensures { Proposes settings.entry.now (record { signals = answer.signals; reply = answer.reply; after = settings.entry.now }) result }
 {
+    let Answer { signals, reply } = answer;
     Proposal {
-        reply: Reply::Refused(refusal),
-        signals: Seq::new(alloc),
+        reply,
+        signals,
         next: None,
         needs_save: false,
         needs_commit: false,
     }
+}
+
+/// A refusal is answered, and nothing is to be done. It takes no memory.
+pub fn propose_refusal(alloc: Global, settings: &Settings, refusal: Refusal) -> Proposal
+    ensures { Proposes settings.entry.now (or_refused settings.entry.now (Err refusal)) result }
+{
+    propose_unchanged(settings, replied(alloc, Reply::Refused(refusal)))
 }

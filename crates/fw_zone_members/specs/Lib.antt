@@ -1,5 +1,6 @@
 pub mod Asking
 pub mod Bindings
+pub mod Flags
 pub mod Inversion
 pub mod Reading
 pub mod RichRules

@@ -83,8 +83,11 @@ fn remove_binding(
     answer_after(unbound, answer)
 }
 
+/// `queryInterface`, `querySource`: whether a zone has an interface or a source.
+///
+/// Refuses an unknown zone, and then an argument that is no interface or source. An empty zone is the default zone.
 #[tactic(auto, unfolding(crate::specs::Bindings::query_binding))]
-fn query_binding(
+pub fn query_binding(
     alloc: Global,
     settings: &Settings,
     zone: &str,

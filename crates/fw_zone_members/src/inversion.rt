@@ -71,8 +71,9 @@ fn remove_inversion(alloc: Global, settings: &mut Settings, zone: &str) -> Resul
     Ok(answer)
 }
 
+/// `queryIcmpBlockInversion`: whether a zone's ICMP blocks are inverted. Refuses an unknown zone. An empty zone is the default zone.
 #[tactic(auto, unfolding(crate::specs::Inversion::inversion_member))]
-fn query_inversion(alloc: Global, settings: &Settings, zone: &str) -> Result<Answer, Stop>
+pub fn query_inversion(alloc: Global, settings: &Settings, zone: &str) -> Result<Answer, Stop>
     ensures { Acts settings.entry.now result (inversion_member settings.entry.now Verb.Query zone.now) }
 {
     let found = find_zone(alloc, &settings.runtime.config, zone)?;

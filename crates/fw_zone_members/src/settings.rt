@@ -185,8 +185,11 @@ fn remove_found(
     Ok(())
 }
 
+/// `queryPort` and its kin: whether a zone has a setting.
+///
+/// Refuses an unknown zone, and then an argument. An empty zone is the default zone.
 #[tactic(auto, unfolding(crate::specs::Settings::query_setting))]
-fn query_setting(
+pub fn query_setting(
     alloc: Global,
     settings: &Settings,
     zone: &str,
