@@ -1,0 +1,2 @@
+pub mod Inverted
+pub mod Members

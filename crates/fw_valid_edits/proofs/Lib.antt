@@ -1,0 +1,4 @@
+pub mod Edited
+pub mod Entries
+pub mod PolicyEdits
+pub mod ZoneEdits
