@@ -1,0 +1,4 @@
+pub mod Dicts
+pub mod Joined
+pub mod Lines
+pub mod Values

@@ -1,0 +1,7 @@
+pub mod Asking
+pub mod Configs
+pub mod Machine
+pub mod Objects
+pub mod Policies
+pub mod Roots
+pub mod Zones
