@@ -1,5 +1,5 @@
 -- Members on interfaces and sources of zones in force keep the settings valid.
-use Rattle.std.proofs.Common.{◌≡◌, ◌∙◌, ℕ, ◌⊎◌, inl, inr, Bool, true, false, if◌then◌else◌, List, Some, Result, Ok, Err, slice_get, slice_set, refl, sym, ap, subst}
+use Rattle.std.proofs.Common.{◌≡◌, ◌∙◌, ℕ, ◌⊎◌, inl, inr, Bool, true, false, if◌then◌else◌, List, Some, Ok, Err, slice_get, slice_set, refl, sym, subst}
 use Rattle.std.specs.List.{list_any}
 use Rattle.fw_act.specs.Acts.{Answered, refused_as}
 use Rattle.fw_argument_laws.proofs.Reading.{word_read}

@@ -1,5 +1,5 @@
 -- The inversion of a zone's ICMP blocks keeps the settings valid, and so does a question.
-use Rattle.std.proofs.Common.{◌≡◌, ℕ, Bool, true, false, not, List, Ok, slice_get, slice_set, Some, find, refl, subst}
+use Rattle.std.proofs.Common.{◌≡◌, ℕ, Bool, true, false, not, List, Ok, slice_get, slice_set, Some, refl, subst}
 use Rattle.fw_act.specs.Acts.{Answered, required}
 use Rattle.fw_calls.specs.declared.call.BindingWord.{BindingWord}
 use Rattle.fw_calls.specs.declared.member.Verb.{Verb}

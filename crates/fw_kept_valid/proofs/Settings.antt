@@ -1,6 +1,8 @@
 -- Members on settings of zones in force keep the settings valid.
-use Rattle.std.proofs.Common.{◌≡◌, ◌∙◌, ℕ, ℤ, pos, int_lt, unsigned_abs, ◌+◌, ◌==◌, ◌≤◌, ◌^◌, Bool, true, false, if◌then◌else◌, List, Option, None, Some, Result, Ok, Err, slice_get, slice_set, refl, sym, subst, arith}
+use Rattle.std.proofs.Common.{◌≡◌, ℕ, ℤ, pos, negsuc, int_lt, unsigned_abs, ◌+◌, ◌==◌, ◌<◌, ◌≤◌, ◌^◌, Bool, true, false, if◌then◌else◌, List, None, Some, Ok, Err, slice_get, slice_set, refl, subst, arith}
 use Rattle.std.specs.Fmt.{signed_decimal}
+use Rattle.std.specs.Int.{w32}
+use Rattle.std.specs.Prelude.{FitsSigned}
 use Rattle.fw_act.specs.Acts.{Answered, refused, refused_as}
 use Rattle.fw_argument_laws.proofs.Reading.{words_read}
 use Rattle.fw_calls.specs.declared.call.SettingVerb.{SettingVerb}
@@ -9,7 +11,7 @@ use Rattle.fw_calls.specs.declared.call.SettingWords.{SettingWords}
 use Rattle.fw_dicts_valid.proofs.Steps.{inner, then_ok}
 use Rattle.fw_kept_valid.proofs.Steps.{looked_up, same_ok, valid_after, was_made}
 use Rattle.fw_kept_valid.proofs.Timers.{IsTimerOf, timers_with, timers_without}
-use Rattle.fw_kept_valid.specs.Timeouts.{IsTimed, IsTimeout}
+use Rattle.fw_kept_valid.specs.Timeouts.{IsTimed}
 use Rattle.fw_model.specs.declared.code.Code.TheVariants as code
 use Rattle.fw_model.specs.declared.setting.Setting.{Setting}
 use Rattle.fw_model.specs.declared.setting.Timed.{Timed}
@@ -49,13 +51,17 @@ was_removed zones found one new is = by (has found.zone.rules one) is
     by false is = cc
 
 -- a timeout that wasn't refused
-seconds_within : (timeout : ℤ) (seconds : ℕ) → IsTimeout timeout → seconds_of timeout ≡ Ok seconds → seconds ≤ 2 ^ 31
+abs_within : (timeout : ℤ) → FitsSigned w32 timeout → unsigned_abs timeout ≤ 2 ^ 31
+abs_within (pos n) fits = let within : n < 2 ^ 31 = fits.sfits in omega arith
+abs_within (negsuc n) fits = let within : n < 2 ^ 31 = fits.sfits in omega arith
+
+seconds_within : (timeout : ℤ) (seconds : ℕ) → FitsSigned w32 timeout → seconds_of timeout ≡ Ok seconds → seconds ≤ 2 ^ 31
 unfolding seconds_of
 seconds_within timeout seconds fits is = by (int_lt timeout (pos 0)) is
   where
     by : (below : Bool) → (if below then refused code.InvalidValue (signed_decimal timeout) else Ok (unsigned_abs timeout)) ≡ Ok seconds → seconds ≤ 2 ^ 31
     by true is = cc
-    by false is = subst (λ (n : ℕ). n ≤ 2 ^ 31) (same_ok (unsigned_abs timeout) seconds _ refl is) fits
+    by false is = subst (λ (n : ℕ). n ≤ 2 ^ 31) (same_ok (unsigned_abs timeout) seconds _ refl is) (abs_within timeout fits)
 
 sum_within : (one other most rest : ℕ) → one ≤ most → other ≤ rest → one + other ≤ most + rest
 sum_within one other most rest first second = omega arith
@@ -107,7 +113,7 @@ removed settings after found one valid at is =
     (valid_after settings zones.0 (without_timers found.zone.name one settings.timers) valid (removed_valid config found valid.runtime at one zones.0 made)
     (subst (λ (new : List Zone). AreTimers (record config { zones = new }) (without_timers found.zone.name one settings.timers)) edit timers))
 
-add_valid : (settings : Settings) (zone : List ℕ) (timeout : ℤ) (words : SettingWords) (answered : Answered Settings) → AreValid settings → IsTimeout timeout
+add_valid : (settings : Settings) (zone : List ℕ) (timeout : ℤ) (words : SettingWords) (answered : Answered Settings) → AreValid settings → FitsSigned w32 timeout
     → add_setting settings zone timeout words ≡ Ok answered → AreValid answered.after
 unfolding add_setting
 add_valid settings zone timeout words answered valid fits is =

@@ -1,5 +1,5 @@
 -- Zones of which the first that lists an entry lost it.
-use Rattle.std.proofs.Common.{◌≡◌, ◌≢◌, ◌∙◌, ℕ, zero, suc, ◌⊎◌, inl, inr, Bool, true, false, ◌||◌, List, [], ◌∷◌, Some, slice_get, slice_set, remove, refl, sym, ap, subst}
+use Rattle.std.proofs.Common.{◌≡◌, ◌≢◌, ◌∙◌, ℕ, zero, suc, ◌⊎◌, inl, inr, Bool, true, false, List, [], ◌∷◌, Some, slice_get, slice_set, remove, refl, sym, ap, subst}
 use Rattle.std.specs.List.{list_any}
 use Rattle.std.specs.Str.{bytes_eq}
 use Rattle.std.proofs.lemmas.Bool.{both_ways, false_from_ne_true}
@@ -15,7 +15,7 @@ use Rattle.fw_valid_edits.proofs.Edited.{each_weaker}
 use Rattle.fw_valid_edits.specs.Fit.{AreFree, IsFitZone}
 use Rattle.fw_zone.specs.Bindings.{interfaces_of, sources_of}
 use Rattle.fw_zone.specs.Lists.{IsIn}
-use Rattle.fw_zone_edits.specs.Entries.{first_changed, lists, taken, without_entry}
+use Rattle.fw_zone_edits.specs.Entries.{first_changed, lists, without_entry}
 use Rattle.fw_zone_edits.specs.declared.entry.Entry.{Entry}
 use Rattle.fw_zone_edits.specs.declared.entry.Entry.TheVariants as entries
 

@@ -1,5 +1,5 @@
 -- Timers of a configuration in which a setting comes to a zone, perhaps with a timer, or goes from it.
-use Rattle.std.proofs.Common.{◌≡◌, ◌≢◌, ◌∙◌, ℕ, zero, suc, ◌≤◌, inl, inr, Bool, true, false, not, ◌&&◌, List, [], ◌∷◌, ◌++◌, map, Option, None, Some, slice_get, slice_set, refl, sym, ap, subst}
+use Rattle.std.proofs.Common.{◌≡◌, ◌≢◌, ◌∙◌, ℕ, zero, suc, ◌≤◌, inl, inr, true, false, not, List, [], ◌∷◌, map, Option, None, Some, slice_get, slice_set, refl, sym, ap, subst}
 use Rattle.std.proofs.lemmas.Bool.{and_from, both_ways, not-true}
 use Rattle.std.proofs.lemmas.Slice.Eq.{bytes_eq-Decides}
 use Rattle.std.specs.Str.{bytes_eq}
@@ -10,7 +10,7 @@ use Rattle.fw_model.specs.declared.config.Config.{Config}
 use Rattle.fw_model.specs.declared.setting.Setting.{Setting}
 use Rattle.fw_model.specs.declared.setting.Timed.{Timed}
 use Rattle.fw_model.specs.declared.zone.Zone.{Zone}
-use Rattle.fw_settings.specs.Valid.{AreTimers, IsHeld, Subject, last_deadline, subject}
+use Rattle.fw_settings.specs.Valid.{AreTimers, IsHeld, last_deadline, subject}
 use Rattle.fw_timed.proofs.Settings.{settings}
 use Rattle.fw_timed.specs.Timers.{is_of, same_setting, without_timers}
 use Rattle.fw_valid.specs.Each.{Each, IsWithoutRepeats}

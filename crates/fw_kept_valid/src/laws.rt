@@ -14,12 +14,25 @@ ghost use Rattle.fw_zone_members.specs.Bindings.{binding_member, zone_of_member}
 ghost use Rattle.fw_zone_members.specs.Inversion.{inversion_member};
 ghost use Rattle.fw_zone_members.specs.Settings.{setting_member};
 
+use fw_calls::SettingVerb;
+
 /// A setting comes to a zone in force, for good or with a timer; it goes, with its timer; or it is asked for (firewalld.dbus(5), `addPort`,
 /// `removePort`, `queryPort` and their kin). A timeout is one of 32 bits: a longer one would end later than a timer may.
 pub fn setting_keeps_valid()
     ensures { (settings : Settings) (verb : SettingVerb) (zone : List ℕ) (words : SettingWords) (answered : Answered Settings) → AreValid settings → IsTimed verb
         → setting_member settings verb zone words ≡ Ok answered → AreValid answered.after }
 {}
+
+/// What a call does with a setting has such a timeout, if any.
+pub fn verbs_are_timed(verb: SettingVerb)
+    ensures { IsTimed verb }
+{
+    match verb {
+        SettingVerb::Add { timeout } => prove!(timeout >= i32::MIN && timeout <= i32::MAX),
+        SettingVerb::Remove => {}
+        SettingVerb::Query => {}
+    }
+}
 
 /// The ICMP blocks of a zone in force are inverted, or are no more (firewalld.dbus(5), `addIcmpBlockInversion` and its kin).
 pub fn inversion_keeps_valid()
