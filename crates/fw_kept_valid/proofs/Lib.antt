@@ -1,2 +1,9 @@
-pub mod Inverted
+pub mod Bindings
+pub mod Has
+pub mod Held
 pub mod Members
+pub mod Passed
+pub mod Settings
+pub mod Steps
+pub mod Taken
+pub mod Timers
