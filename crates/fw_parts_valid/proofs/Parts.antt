@@ -1,12 +1,11 @@
 -- A valid configuration of which parts are others is valid, and timers are of its settings.
-use Rattle.std.proofs.Common.{◌≡◌, ℕ, List, [], ◌∷◌, map, refl, sym, subst}
+use Rattle.std.proofs.Common.{ℕ, List, sym, subst}
 use Rattle.fw_model.specs.declared.config.Config.{Config}
 use Rattle.fw_model.specs.declared.config.LogDenied.{LogDenied}
 use Rattle.fw_model.specs.declared.ipset.IpSet.{IpSet}
 use Rattle.fw_model.specs.declared.rules.Rules.{Rules}
 use Rattle.fw_model.specs.declared.service.Service.{Service}
 use Rattle.fw_model.specs.declared.setting.Timed.{Timed}
-use Rattle.fw_model.specs.declared.zone.Zone.{Zone}
 use Rattle.fw_parts_valid.specs.Parts.{AreOtherSets, with_parts}
 use Rattle.fw_settings.specs.Valid.{AreTimers, IsHeld, subject}
 use Rattle.fw_valid.specs.Names.{AreNames, ipset_names, zone_names}
