@@ -4,10 +4,9 @@ use Rattle.std.specs.List.{list_any}
 use Rattle.fw_act.specs.Acts.{Answered, refused_as}
 use Rattle.fw_argument_laws.proofs.Reading.{word_read}
 use Rattle.fw_calls.specs.declared.call.BindingWord.{BindingWord}
-use Rattle.fw_calls.specs.declared.member.BindingVerb.{BindingVerb}
 use Rattle.fw_calls.specs.declared.member.BindingVerb.TheVariants as verb
+use Rattle.fw_calls.specs.declared.member.BindingVerb.{BindingVerb}
 use Rattle.fw_dicts_valid.proofs.Steps.{inner, then_ok}
-use Rattle.fw_kept_valid.proofs.Held.{timers_stay}
 use Rattle.fw_kept_valid.proofs.Steps.{looked_up, same_ok, valid_after, was_made}
 use Rattle.fw_kept_valid.proofs.Taken.{IsFirst, IsNone, first_elsewhere, first_or_none, none_left, other_stays}
 use Rattle.fw_model.specs.declared.code.Code.TheVariants as code
@@ -15,11 +14,12 @@ use Rattle.fw_model.specs.declared.zone.Zone.{Zone}
 use Rattle.fw_settings.specs.Parts.{with_zones}
 use Rattle.fw_settings.specs.Valid.{AreTimers, AreValid}
 use Rattle.fw_settings.specs.declared.settings.Settings.{Settings}
+use Rattle.fw_timer_laws.proofs.Held.{timers_stay}
 use Rattle.fw_valid_edits.proofs.ZoneEdits.{zone_beside}
 use Rattle.fw_zone_edits.specs.Entries.{bound, lists, moved, taken, unbound, unknown, with_entry, without_entry}
 use Rattle.fw_zone_edits.specs.Zones.{Found}
-use Rattle.fw_zone_edits.specs.declared.entry.Entry.{Entry}
 use Rattle.fw_zone_edits.specs.declared.entry.Entry.TheVariants as entries
+use Rattle.fw_zone_edits.specs.declared.entry.Entry.{Entry}
 use Rattle.fw_zone_laws.proofs.Entries.{bound_valid, unbound_valid}
 use Rattle.fw_zone_laws.specs.Entries.{IsEntry}
 use Rattle.fw_zone_members.specs.Bindings.{add_binding, binding_member, change_binding, query_binding, remove_binding}

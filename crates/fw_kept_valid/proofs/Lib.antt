@@ -1,9 +1,5 @@
 pub mod Bindings
-pub mod Has
-pub mod Held
 pub mod Members
-pub mod Passed
 pub mod Settings
 pub mod Steps
 pub mod Taken
-pub mod Timers

@@ -2,16 +2,16 @@
 use Rattle.std.proofs.Common.{◌≡◌, ℕ, Bool, true, false, not, List, Ok, slice_get, slice_set, Some, refl, subst}
 use Rattle.fw_act.specs.Acts.{Answered, required}
 use Rattle.fw_calls.specs.declared.call.BindingWord.{BindingWord}
-use Rattle.fw_calls.specs.declared.member.Verb.{Verb}
 use Rattle.fw_calls.specs.declared.member.Verb.TheVariants as verb
-use Rattle.fw_calls.specs.declared.signal_kind.SignalKind.{SignalKind}
+use Rattle.fw_calls.specs.declared.member.Verb.{Verb}
 use Rattle.fw_calls.specs.declared.signal_kind.SignalKind.TheVariants as signal
+use Rattle.fw_calls.specs.declared.signal_kind.SignalKind.{SignalKind}
 use Rattle.fw_dicts_valid.proofs.Steps.{inner, then_ok}
-use Rattle.fw_kept_valid.proofs.Held.{timers_stay}
 use Rattle.fw_kept_valid.proofs.Steps.{looked_up, valid_after}
 use Rattle.fw_model.specs.declared.code.Code.TheVariants as code
 use Rattle.fw_settings.specs.Valid.{AreValid}
 use Rattle.fw_settings.specs.declared.settings.Settings.{Settings}
+use Rattle.fw_timer_laws.proofs.Held.{timers_stay}
 use Rattle.fw_zone_edits.specs.Zones.{Found}
 use Rattle.fw_zone_laws.proofs.Zones.{inversion_changed}
 use Rattle.fw_zone_members.specs.Asking.{zone_settings_member}

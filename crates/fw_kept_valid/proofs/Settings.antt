@@ -5,12 +5,11 @@ use Rattle.std.specs.Int.{w32}
 use Rattle.std.specs.Prelude.{FitsSigned}
 use Rattle.fw_act.specs.Acts.{Answered, refused, refused_as}
 use Rattle.fw_argument_laws.proofs.Reading.{words_read}
-use Rattle.fw_calls.specs.declared.call.SettingVerb.{SettingVerb}
 use Rattle.fw_calls.specs.declared.call.SettingVerb.TheVariants as verb
+use Rattle.fw_calls.specs.declared.call.SettingVerb.{SettingVerb}
 use Rattle.fw_calls.specs.declared.call.SettingWords.{SettingWords}
 use Rattle.fw_dicts_valid.proofs.Steps.{inner, then_ok}
 use Rattle.fw_kept_valid.proofs.Steps.{looked_up, same_ok, valid_after, was_made}
-use Rattle.fw_kept_valid.proofs.Timers.{IsTimerOf, timers_with, timers_without}
 use Rattle.fw_kept_valid.specs.Timeouts.{IsTimed}
 use Rattle.fw_model.specs.declared.code.Code.TheVariants as code
 use Rattle.fw_model.specs.declared.setting.Setting.{Setting}
@@ -19,6 +18,8 @@ use Rattle.fw_model.specs.declared.zone.Zone.{Zone}
 use Rattle.fw_settings.specs.Valid.{AreTimers, AreValid}
 use Rattle.fw_settings.specs.declared.settings.Settings.{Settings}
 use Rattle.fw_timed.specs.Timers.{without_timers}
+use Rattle.fw_timer_laws.proofs.Timers.{timers_with, timers_without}
+use Rattle.fw_timer_laws.specs.Timers.{IsTimerOf}
 use Rattle.fw_zone.specs.Settings.{with_setting}
 use Rattle.fw_zone_edits.specs.Settings.{added_at, edited, has, removed_at, without_setting}
 use Rattle.fw_zone_edits.specs.Texts.{setting_text}

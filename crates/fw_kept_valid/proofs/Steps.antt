@@ -2,8 +2,8 @@
 use Rattle.std.proofs.Common.{◌≡◌, ℕ, List, Result, Ok, Err, Some, slice_get, ap}
 use Rattle.fw_act.specs.Acts.{refused_as}
 use Rattle.fw_dicts_valid.proofs.Steps.{inner, was_found}
-use Rattle.fw_model.specs.declared.code.Code.{Code}
 use Rattle.fw_model.specs.declared.code.Code.TheVariants as code
+use Rattle.fw_model.specs.declared.code.Code.{Code}
 use Rattle.fw_model.specs.declared.config.Config.{Config}
 use Rattle.fw_model.specs.declared.setting.Timed.{Timed}
 use Rattle.fw_model.specs.declared.zone.Zone.{Zone}

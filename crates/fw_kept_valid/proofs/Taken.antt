@@ -7,17 +7,17 @@ use Rattle.fw_answer.proofs.Equality as equality
 use Rattle.fw_answer.proofs.Items.{IsEquality, is_in_decides}
 use Rattle.fw_answer.specs.Equal.{same_source}
 use Rattle.fw_answer.specs.Lists.{is_in}
-use Rattle.fw_kept_valid.proofs.Has.{gone_without}
 use Rattle.fw_model.specs.declared.config.Config.{Config}
 use Rattle.fw_model.specs.declared.zone.Zone.{Zone}
+use Rattle.fw_timer_laws.proofs.Has.{gone_without}
 use Rattle.fw_valid.specs.Each.{Each}
 use Rattle.fw_valid_edits.proofs.Edited.{each_weaker}
 use Rattle.fw_valid_edits.specs.Fit.{AreFree, IsFitZone}
 use Rattle.fw_zone.specs.Bindings.{interfaces_of, sources_of}
 use Rattle.fw_zone.specs.Lists.{IsIn}
 use Rattle.fw_zone_edits.specs.Entries.{first_changed, lists, without_entry}
-use Rattle.fw_zone_edits.specs.declared.entry.Entry.{Entry}
 use Rattle.fw_zone_edits.specs.declared.entry.Entry.TheVariants as entries
+use Rattle.fw_zone_edits.specs.declared.entry.Entry.{Entry}
 
 -- the first zone that passes a test, and what becomes of the zones where that one is changed
 pub record IsFirst (test : Zone → Bool) (change : Zone → Zone) (zones : List Zone) : Type 0 where

@@ -3,9 +3,6 @@ use Rattle.std.proofs.Common.{◌≡◌, ◌≢◌, ◌∙◌, ℕ, zero, suc, �
 use Rattle.std.proofs.lemmas.Bool.{and_from, both_ways, not-true}
 use Rattle.std.proofs.lemmas.Slice.Eq.{bytes_eq-Decides}
 use Rattle.std.specs.Str.{bytes_eq}
-use Rattle.fw_kept_valid.proofs.Has.{has_more, has_new, has_still}
-use Rattle.fw_kept_valid.proofs.Held.{held_stays}
-use Rattle.fw_kept_valid.proofs.Passed.{each_passed, once_passed}
 use Rattle.fw_model.specs.declared.config.Config.{Config}
 use Rattle.fw_model.specs.declared.setting.Setting.{Setting}
 use Rattle.fw_model.specs.declared.setting.Timed.{Timed}
@@ -13,6 +10,10 @@ use Rattle.fw_model.specs.declared.zone.Zone.{Zone}
 use Rattle.fw_settings.specs.Valid.{AreTimers, IsHeld, last_deadline, subject}
 use Rattle.fw_timed.proofs.Settings.{settings}
 use Rattle.fw_timed.specs.Timers.{is_of, same_setting, without_timers}
+use Rattle.fw_timer_laws.proofs.Has.{has_more, has_new, has_still}
+use Rattle.fw_timer_laws.proofs.Held.{held_stays}
+use Rattle.fw_timer_laws.proofs.Passed.{each_passed, once_passed}
+use Rattle.fw_timer_laws.specs.Timers.{IsTimerOf}
 use Rattle.fw_valid.specs.Each.{Each, IsWithoutRepeats}
 use Rattle.fw_valid.specs.Names.{zone_names}
 use Rattle.fw_valid_edits.proofs.Edited.{each_in, each_mapped, each_pushed, each_weaker, map_pushed, once_pushed}
@@ -52,12 +53,6 @@ set_is_in : (zones : List Zone) (place : ℕ) (old new : Zone) → slice_get zon
 set_is_in [] place old new at = cc
 set_is_in (first ∷ others) zero old new at = inl refl
 set_is_in (first ∷ others) (suc place) old new at = inr (set_is_in others place old new at)
-
--- a timer of a setting of a zone, in time
-pub record IsTimerOf (found : Found) (one : Setting) (timed : Timed) : Type 0 where
-  pub zone : timed.zone ≡ found.zone.name
-  pub setting : timed.setting ≡ one
-  pub in_time : timed.deadline ≤ last_deadline
 
 module _ (config : Config) (found : Found) (at : slice_get config.zones found.place ≡ Some found.zone) (timers : List Timed) (are : AreTimers config timers) (one : Setting) where
   abbrev with_one : Zone

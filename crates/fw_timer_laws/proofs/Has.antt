@@ -10,8 +10,8 @@ use Rattle.fw_model.specs.declared.forward.Forward.{Forward}
 use Rattle.fw_model.specs.declared.port.Port.{Port}
 use Rattle.fw_model.specs.declared.rich.Rich.{Rich}
 use Rattle.fw_model.specs.declared.rules.Rules.{Rules}
-use Rattle.fw_model.specs.declared.setting.Setting.{Setting}
 use Rattle.fw_model.specs.declared.setting.Setting.TheVariants as setting
+use Rattle.fw_model.specs.declared.setting.Setting.{Setting}
 use Rattle.fw_valid.specs.Each.{IsWithoutRepeats}
 use Rattle.fw_valid_edits.proofs.Edited.{in_front}
 use Rattle.fw_zone.specs.Lists.{IsIn}
