@@ -1,3 +1,5 @@
+mod Placed
+mod Through
 pub mod PolicyLists
 pub mod RichLists
 pub mod RichRules

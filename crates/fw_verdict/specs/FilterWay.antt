@@ -21,7 +21,7 @@ use Rattle.fw_verdict.specs.Items.{accepted}
 use Rattle.fw_verdict.specs.Policies.End.{at_host, in_zone}
 use Rattle.fw_verdict.specs.Walk.{Item, Walked, in_turn, walk}
 use Rattle.fw_verdict.specs.Walk.Effect.{decide}
-use Rattle.fw_verdict.specs.Way.{decided_as, forward_walk, from_host, is_invalid, known_item, panicked, policies_before, policies_behind, reject, route, zone_walk}
+use Rattle.fw_verdict.specs.Way.{decided_as, forward_walk, from_host, is_invalid, known_item, panicked, policies_before, policies_behind, reject, route, target_forwarded, zone_walk}
 
 -- What is decided without any zone's settings.
 abbrev pub early_items : List Item
@@ -52,13 +52,6 @@ to_host config packet =
     ∷ policies_behind config packet (in_zone (ingress config packet)) at_host
     ∷ to_host_end packet (ingress config packet)
     ∷ [])
-
--- A zone's target, for packets that are forwarded.
-abbrev pub target_forwarded : ZoneTarget → Verdict
-target_forwarded target.Accept = verdict.Accept
-target_forwarded target.Drop = verdict.Drop
-target_forwarded target.Reject = reject
-target_forwarded target.Default = reject
 
 abbrev pub forwarded_end : Option Zone → Walked
 forwarded_end None = decided_as verdict.Drop

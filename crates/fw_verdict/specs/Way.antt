@@ -132,22 +132,36 @@ abbrev pub zone_walk : Config → Packet → Option Zone → Walked
 zone_walk config packet None = nothing
 zone_walk config packet (Some zone) = walk (items config zone.rules zone.inversion) packet
 
--- what is denied whatever packet it is, behind its line
-abbrev pub denied_as : Config → List ℕ → Verdict → List Item
-denied_as config prefix chosen = denial_item config prefix ∷ record { hits = λ packet. true; effect = decide chosen } ∷ []
+-- The zone's target (firewalld.zone(5), `target`), for what nothing else decided. Under `default` packets are rejected.
+abbrev pub target_forwarded : ZoneTarget → Verdict
+target_forwarded target.Accept = verdict.Accept
+target_forwarded target.Drop = verdict.Drop
+target_forwarded target.Reject = reject
+target_forwarded target.Default = reject
 
--- The zone's target (firewalld.zone(5), `target`), for what nothing else decided: under `default` ICMP is accepted, and all
--- others are rejected.
-abbrev pub target_items : Config → List ℕ → ZoneTarget → List Item
-target_items config name target.Accept = accepted (λ packet. true) ∷ []
-target_items config name target.Drop = denied_as config (drop_prefix input_front name) verdict.Drop
-target_items config name target.Reject = denied_as config (reject_prefix input_front name) reject
-target_items config name target.Default = accepted is_icmp ∷ denied_as config final_prefix reject
+-- the line before what it denies, where denied packets are told of
+abbrev pub target_lines : Config → (front name : List ℕ) → ZoneTarget → List Item
+target_lines config front name target.Accept = []
+target_lines config front name target.Drop = denial_item config (drop_prefix front name) ∷ []
+target_lines config front name target.Reject = denial_item config (reject_prefix front name) ∷ []
+target_lines config front name target.Default = denial_item config final_prefix ∷ []
+
+-- Under `default` ICMP to the host is accepted before.
+abbrev pub icmp_accepted : ZoneTarget → List Item
+icmp_accepted target.Accept = []
+icmp_accepted target.Drop = []
+icmp_accepted target.Reject = []
+icmp_accepted target.Default = accepted is_icmp ∷ []
 
 -- A packet of no zone is dropped. There is one only where the default zone isn't there.
 abbrev pub to_host_end : Config → Packet → Option Zone → Walked
 to_host_end config packet None = decided_as verdict.Drop
-to_host_end config packet (Some zone) = walk (target_items config zone.name zone.target) packet
+to_host_end config packet (Some zone) =
+    in_turn
+    (walk (icmp_accepted zone.target) packet
+    ∷ walk (target_lines config input_front zone.name zone.target) packet
+    ∷ decided_as (target_forwarded zone.target)
+    ∷ [])
 
 abbrev pub to_host : Config → Packet → Walked
 to_host config packet =
@@ -168,16 +182,14 @@ stays_within None to = false
 abbrev pub forward_walk : Option Zone → Option Zone → Walked
 forward_walk from to = if stays_within from to then decided_as verdict.Accept else nothing
 
--- The target of the zone that the packet comes from. Under `default` it is rejected, ICMP too.
-abbrev pub forwarded_items : Config → List ℕ → ZoneTarget → List Item
-forwarded_items config name target.Accept = accepted (λ packet. true) ∷ []
-forwarded_items config name target.Drop = denied_as config (drop_prefix forward_front name) verdict.Drop
-forwarded_items config name target.Reject = denied_as config (reject_prefix forward_front name) reject
-forwarded_items config name target.Default = denied_as config final_prefix reject
-
+-- The target of the zone that the packet comes from. Under `default` ICMP is rejected, too.
 abbrev pub forwarded_end : Config → Packet → Option Zone → Walked
 forwarded_end config packet None = decided_as verdict.Drop
-forwarded_end config packet (Some zone) = walk (forwarded_items config zone.name zone.target) packet
+forwarded_end config packet (Some zone) =
+    in_turn
+    (walk (target_lines config forward_front zone.name zone.target) packet
+    ∷ decided_as (target_forwarded zone.target)
+    ∷ [])
 
 abbrev pub forwarded : Config → Packet → List ℕ → Walked
 forwarded config packet name =
