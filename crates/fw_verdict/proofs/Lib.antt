@@ -1,5 +1,11 @@
+mod Found
+mod Givers
 mod Placed
+mod Ports
+mod Prerouted
+mod Settings
 mod Through
+mod Unseen
 pub mod PolicyLists
 pub mod RichLists
 pub mod RichRules

@@ -6,18 +6,16 @@ use Rattle.std.proofs.lemmas.List.{at_drop_all, at_drop_more}
 use Rattle.fw_order.specs.Borrowed.{lent}
 use Rattle.fw_verdict.specs.Changes.{ChangeItem, Passing, Reached, and_on, going_on, reached_by, through}
 
+joined : (items other : List ChangeItem) (over : Bool) (next : Passing)
+    → ((now : Passing) → through (items ++ other) now ≡ and_on (through items now) (through other))
+    → and_on (record { now = next; over = over }) (through (items ++ other)) ≡ and_on (and_on (record { now = next; over = over }) (through items)) (through other)
+joined items other true next behind = refl
+joined items other false next behind = behind next
+
 -- two lists, one behind the other
 pub through_append : (one other : List ChangeItem) (now : Passing) → through (one ++ other) now ≡ and_on (through one now) (through other)
 through_append [] other now = refl
-through_append (item ∷ items) other now = by (reached_by item now)
-  where
-    on : (over : Bool) (next : Passing)
-        → and_on (record { now = next; over = over }) (through (items ++ other))
-        ≡ and_on (and_on (record { now = next; over = over }) (through items)) (through other)
-    on true next = refl
-    on false next = through_append items other next
-    by : (reached : Reached) → and_on reached (through (items ++ other)) ≡ and_on (and_on reached (through items)) (through other)
-    by reached = on reached.over reached.now
+through_append (item ∷ items) other now = joined items other (reached_by item now).over (reached_by item now).now (through_append items other)
 
 ends_at : (reached : Reached) (others : Passing → Reached) → reached.over ≡ true → and_on reached others ≡ reached
 ends_at reached others over = ap (λ (is : Bool). if is then reached else others reached.now) over

@@ -1,5 +1,5 @@
 -- Which denied packets are told of, and by which lines (firewalld.conf(5), `LogDenied`).
-use Rattle.std.specs.Prelude.{ℕ, List, [], ◌∷◌, ◌++◌, codes, Bool, true, false}
+use Rattle.std.specs.Prelude.{ℕ, List, ◌++◌, codes, Bool, true, false}
 use Rattle.fw_addr.specs.declared.log.Level.TheVariants.{Warning}
 use Rattle.fw_addr.specs.declared.log.LogKind.TheVariants as kind
 use Rattle.fw_addr.specs.declared.log.LogLine.{LogLine}
@@ -8,7 +8,6 @@ use Rattle.fw_addr.specs.declared.packet.PktType.TheVariants as to
 use Rattle.fw_model.specs.declared.config.Config.{Config}
 use Rattle.fw_model.specs.declared.config.LogDenied.{LogDenied}
 use Rattle.fw_model.specs.declared.config.LogDenied.TheVariants as denied
-use Rattle.fw_model.specs.declared.packet.Packet.{Packet}
 use Rattle.fw_verdict.specs.Walk.{Item}
 use Rattle.fw_verdict.specs.Walk.Effect.{log}
 

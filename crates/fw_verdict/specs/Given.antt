@@ -125,6 +125,11 @@ abbrev pub moved_by : Option Dnat → Packet → Packet
 moved_by None packet = packet
 moved_by (Some dnat) packet = with_destination dnat packet
 
+-- it keeps its mark and its destination
+pub record IsUnmoved (packet : Packet) (mark : ℕ) (dnat : Option Dnat) : Type 0 where
+  pub mark_is : mark ≡ packet.mark
+  pub dnat_is : dnat ≡ None
+
 -- it is sent to another destination, and goes no further, or it goes on
 abbrev pub sent_on : Option Dnat → Passing → Reached
 sent_on None now = going_on now

@@ -126,7 +126,15 @@ fn tell_target(
     match zone.target {
         ZoneTarget::Accept => Ok(()),
         ZoneTarget::Drop => tell_by_zone(alloc, config, packet, front, &zone.name, "_DROP: ", logs),
-        ZoneTarget::Reject => tell_by_zone(alloc, config, packet, front, &zone.name, "_REJECT: ", logs),
+        ZoneTarget::Reject => tell_by_zone(
+            alloc,
+            config,
+            packet,
+            front,
+            &zone.name,
+            "_REJECT: ",
+            logs,
+        ),
         ZoneTarget::Default => tell(alloc, config, packet, "FINAL_REJECT: ", logs),
     }
 }

@@ -5,7 +5,7 @@ ghost use Rattle.fw_addr.specs.declared.log.LogLine.{LogLine};
 ghost use Rattle.fw_model.specs.declared.config.Config.{Config};
 ghost use Rattle.fw_order.specs.Borrowed.{lent};
 ghost use Rattle.fw_verdict.specs.Given.{MasksTo};
-ghost use Rattle.fw_verdict.specs.Outside.{leaving_items, outside_items, plain_items};
+ghost use Rattle.fw_verdict.specs.Outside.{leaving_items, outside_items, placed_items, plain_items};
 ghost use Rattle.fw_verdict.specs.Sides.{leaving_by};
 ghost use Rattle.fw_verdict.specs.declared.outside.Place.TheVariants as place;
 
@@ -54,6 +54,20 @@ fn act_in_turn(
     Ok(false)
 }
 
+/// Whether the rich rules of settings masquerade a packet.
+fn masks_by_rules(
+    alloc: Global,
+    config: &Config,
+    rules: &Rules,
+    packet: &Packet,
+    logs: &mut Seq<LogLine>,
+) -> Result<bool, Memory>
+    ensures { IfOk result (λ found. MasksTo (placed_items config.now place.Masquerades rules.now.rich) packet.now logs.old logs.new found) }
+{
+    let ordered = rules_at(alloc, Place::Masquerades, rules.rich.as_slice())?;
+    act_in_turn(alloc, config, ordered.as_slice(), packet, logs)
+}
+
 /// Whether masquerade that is no rich rule is about a packet: it is for IPv4 alone.
 fn masks_plainly(rules: &Rules, packet: &Packet) -> bool
     ensures { (config : Config) (logs : List LogLine) → MasksTo (plain_items config rules.now.masquerade) packet.now logs logs result }
@@ -71,8 +85,7 @@ fn masks(
 ) -> Result<bool, Memory>
     ensures { IfOk result (λ found. MasksTo (leaving_items config.now rules.now) packet.now logs.old logs.new found) }
 {
-    let ordered = rules_at(alloc, Place::Masquerades, rules.rich.as_slice())?;
-    let found = act_in_turn(alloc, config, ordered.as_slice(), packet, logs)?;
+    let found = masks_by_rules(alloc, config, rules, packet, logs)?;
     if found {
         return Ok(true);
     }

@@ -69,11 +69,7 @@ fn rules_of<'a>(alloc: Global, place: Place, rules: &'a [Rich]) -> Result<Vec<&'
 /// The rules of a place, by priority, and of one priority as they are listed.
 ///
 /// Refuses for want of memory alone.
-pub fn rules_at<'a>(
-    alloc: Global,
-    place: Place,
-    rules: &'a [Rich],
-) -> Result<Vec<&'a Rich>, Memory>
+pub fn rules_at<'a>(alloc: Global, place: Place, rules: &'a [Rich]) -> Result<Vec<&'a Rich>, Memory>
     ensures { IfOk result (λ ordered. lent ordered.items ≡ by_priority (filter (stands_at place) rules.now)) }
 {
     by_priority(rules_of(alloc, place, rules)?)

@@ -159,7 +159,12 @@ pub fn passes(limit: &Option<Limit>, packet: &Packet) -> bool
 }
 
 /// Logs the line of a rule's `log`, where its limit is passed.
-pub fn log(alloc: Global, rule: &Rich, packet: &Packet, logs: &mut Seq<LogLine>) -> Result<(), Memory>
+pub fn log(
+    alloc: Global,
+    rule: &Rich,
+    packet: &Packet,
+    logs: &mut Seq<LogLine>,
+) -> Result<(), Memory>
     ensures { IfOk result (λ _. logs.new ≡ logs.old ++ log_given packet.now rule.now.log) }
 {
     let Some(log) = &rule.log else {

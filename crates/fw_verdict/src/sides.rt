@@ -78,10 +78,7 @@ pub fn policies_beside<'a>(
     by_priority_and_name(found)
 }
 
-fn push_settings<'a>(
-    policies: &[&'a Policy],
-    settings: &mut Vec<&'a Rules>,
-) -> Result<(), Memory>
+fn push_settings<'a>(policies: &[&'a Policy], settings: &mut Vec<&'a Rules>) -> Result<(), Memory>
     ensures { IfOk result (λ _. lent settings.new.items ≡ lent settings.old.items ++ policy_settings (lent policies.now)) }
 {
     for policy in policies {

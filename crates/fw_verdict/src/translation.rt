@@ -1,14 +1,15 @@
 //! Translation of the destination: forwarded ports (firewalld.zone(5) and firewalld.richlanguage(5), `forward-port`).
 ghost use Rattle.std.specs.Prelude.{◌≡◌, ◌&&◌, IfOk, List, map};
-ghost use Rattle.std.specs.List.{find, flat_map};
+ghost use Rattle.std.specs.List.{filter, find, flat_map};
 ghost use Rattle.std.specs.Option.{option_copied};
 ghost use Rattle.fw_addr.specs.declared.log.LogLine.{LogLine};
 ghost use Rattle.fw_hits.specs.Plain.{is_ipv4};
 ghost use Rattle.fw_model.specs.Ports.{port_matches};
 ghost use Rattle.fw_model.specs.declared.config.Config.{Config};
 ghost use Rattle.fw_order.specs.Borrowed.{lent};
+ghost use Rattle.fw_order.specs.Order.{by_priority};
 ghost use Rattle.fw_verdict.specs.Given.{SendsTo, forward_rule_items, target_given};
-ghost use Rattle.fw_verdict.specs.Outside.{port_item, target_of, translation_items};
+ghost use Rattle.fw_verdict.specs.Outside.{port_item, stands_at, target_of, translation_items};
 ghost use Rattle.fw_verdict.specs.Sides.{entering};
 ghost use Rattle.fw_verdict.specs.declared.sides.Side.TheVariants as side;
 
@@ -75,6 +76,21 @@ fn act_in_turn(
     Ok(None)
 }
 
+/// To where the rules of a place send a packet, if they do.
+fn target_by_rules(
+    alloc: Global,
+    config: &Config,
+    place: Place,
+    rules: &Rules,
+    packet: &Packet,
+    logs: &mut Seq<LogLine>,
+) -> Result<Option<Dnat>, Memory>
+    ensures { IfOk result (λ found. SendsTo (flat_map (forward_rule_items config.now) (by_priority (filter (stands_at place) rules.now.rich))) packet.now logs.old logs.new found) }
+{
+    let ordered = rules_at(alloc, place, rules.rich.as_slice())?;
+    act_in_turn(alloc, config, ordered.as_slice(), packet, logs)
+}
+
 /// Whether a packet is of IPv4.
 pub fn is_ipv4(packet: &Packet) -> bool
     ensures { result ≡ is_ipv4 packet.now }
@@ -103,9 +119,7 @@ fn is_about(forward: &Forward, packet: &Packet) -> bool
 fn first_port<'a>(forwards: &'a [Forward], packet: &Packet) -> Option<&'a Forward>
     ensures { option_copied result ≡ find (λ forward. is_ipv4 packet.now && port_matches forward.port packet.now) forwards.now }
 {
-    forwards
-        .iter()
-        .find(|forward| is_about(forward, packet))
+    forwards.iter().find(|forward| is_about(forward, packet))
 }
 
 /// To where a forwarded port that is no rich rule sends a packet, if one does.
@@ -129,8 +143,7 @@ fn target_by_settings(
 ) -> Result<Option<Dnat>, Memory>
     ensures { IfOk result (λ found. SendsTo (translation_items config.now rules.now) packet.now logs.old logs.new found) }
 {
-    let before = rules_at(alloc, Place::ForwardsBefore, rules.rich.as_slice())?;
-    let found = act_in_turn(alloc, config, before.as_slice(), packet, logs)?;
+    let found = target_by_rules(alloc, config, Place::ForwardsBefore, rules, packet, logs)?;
     if found.is_some() {
         return Ok(found);
     }
@@ -138,8 +151,7 @@ fn target_by_settings(
     if by_port.is_some() {
         return Ok(by_port);
     }
-    let behind = rules_at(alloc, Place::ForwardsBehind, rules.rich.as_slice())?;
-    act_in_turn(alloc, config, behind.as_slice(), packet, logs)
+    target_by_rules(alloc, config, Place::ForwardsBehind, rules, packet, logs)
 }
 
 fn target_in_turn(

@@ -1,12 +1,12 @@
 //! The way of a packet through the firewall.
-ghost use Rattle.std.specs.Prelude.{◌≡◌, IfOk, None, Some, [], unwrap_or, Option, ℕ};
+ghost use Rattle.std.specs.Prelude.{◌≡◌, true, IfOk, None, Some, [], unwrap_or, Option, ℕ};
 ghost use Rattle.std.specs.List.{find};
 ghost use Rattle.std.specs.Option.{option_copied};
 ghost use Rattle.fw_addr.specs.Subnets.{in_net};
 ghost use Rattle.fw_addr.specs.declared.dnat.Dnat.{Dnat};
 ghost use Rattle.fw_model.specs.declared.packet.Via.TheVariants as via;
 ghost use Rattle.fw_verdict.specs.Changes.{with_mark};
-ghost use Rattle.fw_verdict.specs.Given.{masked, moved_by, sent_on, standing};
+ghost use Rattle.fw_verdict.specs.Given.{IsUnmoved, masked, moved_by, sent_on, standing};
 ghost use Rattle.fw_verdict.specs.Way.{behind_prerouting, is_accept, is_new, leaves_by, marked, may_masquerade, panicked, passed, postrouted, route, routed_by, sends_to, translated, way};
 
 use crate::filter::filtered;
@@ -44,6 +44,13 @@ fn panicked(alloc: Global, packet: &Packet) -> Outcome
     }
 }
 
+/// Whether a mark and a destination leave a packet as it is.
+fn is_unmoved(packet: &Packet, mark: u32, dnat: Option<Dnat>) -> bool
+    ensures { result ≡ true → IsUnmoved packet.now mark dnat }
+{
+    mark == packet.mark && dnat.is_none()
+}
+
 /// The steps before routing, and then the others. A packet that these change is copied.
 fn passed(alloc: Global, config: &Config, packet: &Packet) -> Result<Outcome, Memory>
     ensures { IfOk result (λ outcome. outcome ≡ passed config.now packet.now) }
@@ -51,7 +58,7 @@ fn passed(alloc: Global, config: &Config, packet: &Packet) -> Result<Outcome, Me
     let mut logs = Seq::new(alloc);
     let mark = mark(alloc, config, packet, &mut logs)?;
     let dnat = translation(alloc, config, packet, &mut logs)?;
-    if mark == packet.mark && dnat.is_none() {
+    if is_unmoved(packet, mark, dnat) {
         return go_on(alloc, config, packet, None, logs);
     }
     let moved = moved(alloc, packet, mark, dnat)?;
@@ -104,12 +111,7 @@ fn translation(
 }
 
 /// A packet with another mark, and where it is sent with another destination.
-fn moved(
-    alloc: Global,
-    packet: &Packet,
-    mark: u32,
-    dnat: Option<Dnat>,
-) -> Result<Packet, Memory>
+fn moved(alloc: Global, packet: &Packet, mark: u32, dnat: Option<Dnat>) -> Result<Packet, Memory>
     ensures { IfOk result (λ moved. moved ≡ moved_by dnat (with_mark mark packet.now)) }
 {
     let mut moved = packet.copy(alloc)?;
