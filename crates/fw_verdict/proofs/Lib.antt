@@ -3,13 +3,13 @@ mod Givers
 mod Placed
 mod Ports
 mod Prerouted
-mod Settings
-mod Through
-mod Unseen
 pub mod PolicyLists
 pub mod RichLists
 pub mod RichRules
 pub mod Sequences
+pub mod Settings
+pub mod Through
 pub mod Turns
+pub mod Unseen
 pub mod Walks
 pub mod Zones
