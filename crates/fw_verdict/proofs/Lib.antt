@@ -1,7 +1,15 @@
+mod Found
+mod Givers
+mod Placed
+mod Ports
+mod Prerouted
 pub mod PolicyLists
 pub mod RichLists
 pub mod RichRules
 pub mod Sequences
+pub mod Settings
+pub mod Through
 pub mod Turns
+pub mod Unseen
 pub mod Walks
 pub mod Zones

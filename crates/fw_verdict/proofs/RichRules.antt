@@ -1,6 +1,6 @@
 -- What a rich rule that is about a packet does, and one that isn't.
-use Rattle.std.proofs.Common.{◌≡◌, ◌∙◌, List, [], ◌∷◌, ◌++◌, Bool, true, false, ◌&&◌, Option, None, Some, refl, sym, ap, subst, append-nil, append_assoc}
-use Rattle.std.specs.Prelude.{if◌then◌else◌, is_some}
+use Rattle.std.proofs.Common.{◌≡◌, ◌∙◌, List, [], ◌∷◌, ◌++◌, Bool, true, false, ◌&&◌, Option, None, Some, refl, sym, ap, subst, append-nil}
+use Rattle.std.specs.Prelude.{if◌then◌else◌}
 use Rattle.fw_addr.specs.declared.limit.Limit.{Limit}
 use Rattle.fw_addr.specs.declared.log.LogLine.{LogLine}
 use Rattle.fw_hits.specs.Rich.{hits_rich}
@@ -14,7 +14,7 @@ use Rattle.fw_model.specs.declared.rich.Rich.{Rich}
 use Rattle.fw_model.specs.declared.rich.RichLog.{RichLog}
 use Rattle.fw_verdict.specs.Given.{Walks, act_given, audit_given, block_given, decision_given, lines_given, log_given}
 use Rattle.fw_verdict.specs.Rich.{acted, acted_as, audited, blocked, blocks_icmp, can_answer, lines, logged, passes, reject_type, rule_items}
-use Rattle.fw_verdict.specs.Walk.{Item, Walked, does, done, nothing, or_then, silently, walk}
+use Rattle.fw_verdict.specs.Walk.{Walked, done, nothing, or_then, silently, walk}
 use Rattle.fw_verdict.specs.Walk.Effect.{decide, log}
 use Rattle.fw_verdict.specs.declared.rich.Part.{Part}
 use Rattle.fw_verdict.specs.declared.rich.Part.TheVariants as part

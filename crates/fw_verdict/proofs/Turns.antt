@@ -1,5 +1,5 @@
 -- Walks one after another, with the lines that they log.
-use Rattle.std.proofs.Common.{◌≡◌, ◌∙◌, List, [], ◌∷◌, ◌++◌, Option, None, Some, true, refl, sym, ap, subst, append_assoc}
+use Rattle.std.proofs.Common.{◌≡◌, ◌∙◌, List, ◌∷◌, ◌++◌, Option, None, Some, true, refl, ap, subst, append_assoc}
 use Rattle.std.specs.Prelude.{is_some}
 use Rattle.fw_addr.specs.declared.log.LogLine.{LogLine}
 use Rattle.fw_model.specs.declared.outcome.Verdict.{Verdict}

@@ -1,11 +1,10 @@
 -- What the settings of a zone decide, part by part.
-use Rattle.std.proofs.Common.{◌≡◌, ℕ, List, [], ◌++◌, Bool, true, false, ◌&&◌, ◌||◌, not, Option, None, Some, refl, sym, ap, subst, append-nil}
+use Rattle.std.proofs.Common.{◌≡◌, ℕ, List, ◌++◌, Bool, true, false, ◌&&◌, ◌||◌, not, Option, None, Some, refl, sym, subst, append-nil}
 use Rattle.std.specs.Prelude.{is_some}
 use Rattle.fw_addr.specs.declared.log.LogLine.{LogLine}
 use Rattle.fw_verdict.specs.Given.{Walks}
 use Rattle.std.specs.Prelude.{if◌then◌else◌, ◌==◌}
 use Rattle.std.specs.List.{list_any}
-use Rattle.std.specs.Option.{option_or}
 use Rattle.fw_model.specs.Ports.{port_matches}
 use Rattle.fw_model.specs.declared.config.Config.{Config}
 use Rattle.fw_model.specs.declared.outcome.Verdict.{Verdict}
@@ -19,7 +18,7 @@ use Rattle.fw_verdict.specs.Items.{all_accepted, icmp_denied, icmp_items, listed
 use Rattle.fw_hits.specs.Services.{source_port_matches}
 use Rattle.fw_verdict.specs.Walk.{Walked, nothing, or_then, silently, walk}
 use Rattle.fw_verdict.specs.Way.{reject}
-use Rattle.fw_verdict.proofs.Walks.{walk_both, walk_either, walk_same}
+use Rattle.fw_verdict.proofs.Walks.{walk_either, walk_same}
 
 -- whether a type of this list blocks a packet
 abbrev pub blocks : List (List ℕ) → Bool → Packet → Bool

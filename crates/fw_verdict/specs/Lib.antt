@@ -1,7 +1,12 @@
+pub mod Changes
+pub mod Denied
 pub mod Ends
+pub mod FilterWay
 pub mod Given
 pub mod Items
+pub mod Outside
 pub mod Policies
 pub mod Rich
+pub mod Sides
 pub mod Walk
 pub mod Way

@@ -1,5 +1,5 @@
 -- Policies (firewalld.policies(5), firewalld.policy(5)): to which packets they apply, in which order, and what they do.
-use Rattle.std.specs.Prelude.{ℕ, List, [], ◌∷◌, map, codes, int_lt, pos, Bool, true, false, ◌&&◌, ◌||◌, Option, None, Some}
+use Rattle.std.specs.Prelude.{ℕ, List, [], ◌∷◌, map, codes, int_lt, pos, Bool, false, ◌&&◌, ◌||◌, Option, None, Some}
 use Rattle.std.specs.List.{filter, list_any}
 use Rattle.std.specs.Str.{bytes_eq}
 use Rattle.fw_addr.specs.declared.reject.RejectType.TheVariants.{IcmpxAdminProhibited}

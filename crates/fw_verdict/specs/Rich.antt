@@ -1,6 +1,6 @@
 -- What rich rules do in the filter (firewalld.richlanguage(5), "Information about logging and actions"): in which of five parts
 -- a rule stands, which lines it logs, and what it decides.
-use Rattle.std.specs.Prelude.{ℕ, ◌==◌, List, [], ◌++◌, ◌∷◌, codes, int_lt, pos, Bool, true, false, not, ◌&&◌, ◌||◌, Option, None, Some, is_none}
+use Rattle.std.specs.Prelude.{ℕ, ◌==◌, List, [], ◌++◌, ◌∷◌, codes, int_lt, pos, Bool, true, false, not, ◌&&◌, ◌||◌, Option, None, Some}
 use Rattle.std.specs.List.{filter, flat_map}
 use Rattle.std.specs.Ordering.{int_eq}
 use Rattle.fw_addr.specs.Protocols.{proto_number}
@@ -14,7 +14,6 @@ use Rattle.fw_addr.specs.declared.reject.RejectType.TheVariants as type
 use Rattle.fw_hits.specs.Rich.{hits_rich}
 use Rattle.fw_limit.specs.Within.{is_within}
 use Rattle.fw_model.specs.declared.config.Config.{Config}
-use Rattle.fw_model.specs.declared.outcome.Verdict.{Verdict}
 use Rattle.fw_model.specs.declared.outcome.Verdict.TheVariants as verdict
 use Rattle.fw_model.specs.declared.packet.Packet.{Packet}
 use Rattle.fw_model.specs.declared.rich.Act.{Act}

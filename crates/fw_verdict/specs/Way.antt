@@ -1,7 +1,7 @@
 -- The way of a packet through the firewall, in eight steps: panic, marks, translation, routing; then what becomes of a
 -- packet to the host, of a forwarded one or of one from the host; then postrouting (firewalld.zone(5), firewalld.policies(5);
 -- nft(8), "ADDRESS FAMILIES", has the hooks at which these stand).
-use Rattle.std.specs.Prelude.{ℕ, List, [], ◌++◌, ◌∷◌, codes, Bool, true, false, ◌&&◌, Option, None, Some, unwrap_or, if◌then◌else◌}
+use Rattle.std.specs.Prelude.{ℕ, List, [], ◌++◌, ◌∷◌, codes, Bool, true, false, not, ◌&&◌, Option, None, Some, unwrap_or, if◌then◌else◌}
 use Rattle.std.specs.List.{find}
 use Rattle.std.specs.Option.{option_map}
 use Rattle.std.specs.Str.{bytes_eq}
@@ -28,35 +28,43 @@ use Rattle.fw_model.specs.declared.zone.ZoneTarget.{ZoneTarget}
 use Rattle.fw_model.specs.declared.zone.ZoneTarget.TheVariants as target
 use Rattle.fw_hits.specs.Bindings.{egress, ingress}
 use Rattle.fw_hits.specs.Plain.{is_icmp}
+use Rattle.fw_verdict.specs.Changes.{Passing, first_passing, through}
+use Rattle.fw_verdict.specs.Denied.{denial, denial_item, drop_prefix, final_prefix, forward_front, input_front, invalid_prefix, is_told, reject_prefix}
 use Rattle.fw_verdict.specs.Items.{accepted, items}
 use Rattle.fw_verdict.specs.Policies.{End, policies}
 use Rattle.fw_verdict.specs.Policies.End.{at_host, in_zone}
+use Rattle.fw_verdict.specs.Sides.{entering, leaving_by}
 use Rattle.fw_verdict.specs.Walk.{Item, Walked, in_turn, nothing, silently, walk}
-use Rattle.fw_verdict.specs.Walk.Effect.{decide}
+use Rattle.fw_verdict.specs.Walk.Effect.{decide, log}
 use Rattle.fw_verdict.specs.declared.policies.Stage.TheVariants as stage
+use Rattle.fw_verdict.specs.declared.sides.Side.TheVariants as side
 
 -- 1. Panic (firewalld.dbus(5), `enablePanicMode`): every packet is dropped, with its own mark, and nothing else is done.
 abbrev pub panicked : Packet → Outcome
 panicked packet = record { verdict = verdict.Drop; mark = packet.mark; dnat = None; masquerade = false; logs = [] }
 
--- 2. Marks. The packet with its new mark, and what was logged.
-pub record Marked : Type 0 where
-  pub packet : Packet
-  pub logs : List LogLine
+-- 2. Marks, of a packet that came by an interface. One of the host keeps its own.
+abbrev pub marked_from : Config → Origin → Passing → Passing
+marked_from config origin.Host now = now
+marked_from config (origin.Link name) now = (through (entering config side.Marked now.packet) now).now
 
--- Rich rules that mark: none yet.
-abbrev pub marked : Config → Packet → Marked
-marked config packet = record { packet = packet; logs = [] }
+abbrev pub marked : Config → Passing → Passing
+marked config now = marked_from config now.packet.origin now
 
--- 3. Translation of the destination. The packet to its new destination, how it was translated, and what was logged.
-pub record Translated : Type 0 where
-  pub packet : Packet
-  pub dnat : Option Dnat
-  pub logs : List LogLine
+-- 3. Translation of the destination, of a packet that came by an interface and begins a connection. One of the host keeps its own.
+abbrev pub is_new : CtState → Bool
+is_new state.New = true
+is_new state.Established = false
+is_new state.Related = false
+is_new state.Invalid = false
 
--- Forwarded ports: none yet.
-abbrev pub translated : Config → Packet → Translated
-translated config packet = record { packet = packet; dnat = None; logs = [] }
+abbrev pub translated_from : Config → Origin → Passing → Passing
+translated_from config origin.Host now = now
+translated_from config (origin.Link name) now =
+    if is_new now.packet.state then (through (entering config side.Translated now.packet) now).now else now
+
+abbrev pub translated : Config → Passing → Passing
+translated config now = translated_from config now.packet.origin now
 
 -- 4. Routing. The first route whose net holds the destination says where the packet goes; without one it goes to the host.
 abbrev pub route : Packet → Via
@@ -71,12 +79,12 @@ abbrev pub routed_by : Option Dnat → Via → Via
 routed_by None routed = routed
 routed_by (Some dnat) routed = sends_to dnat.addr routed
 
-abbrev pub routed : Translated → Via
-routed step = routed_by step.dnat (route step.packet)
+abbrev pub routed : Passing → Via
+routed now = routed_by now.dnat (route now.packet)
 
 -- What is decided without any zone's settings, here and where it is forwarded: packets of connections that were let in
 -- (nft(8), CONNTRACK EXPRESSIONS, `ct state`), those whose connection's destination is translated (`ct status dnat`), and the
--- host's own by `lo` are accepted; packets of no connection are dropped.
+-- host's own by `lo` are accepted; packets of no connection are dropped, behind a line where denied packets are told of.
 abbrev pub is_known : CtState → Bool
 is_known state.New = false
 is_known state.Established = true
@@ -92,13 +100,18 @@ is_invalid state.Invalid = true
 abbrev pub known_item : Item
 known_item = accepted (λ packet. is_known packet.state)
 
-abbrev pub early_items : List Item
-early_items =
+abbrev pub invalid_items : Config → List Item
+invalid_items config =
+    record { hits = λ packet. is_invalid packet.state && is_told config.log_denied packet.pkt; effect = log (denial invalid_prefix) }
+    ∷ record { hits = λ packet. is_invalid packet.state; effect = decide verdict.Drop }
+    ∷ []
+
+abbrev pub early_items : Config → List Item
+early_items config =
     known_item
     ∷ accepted (λ packet. packet.dnat)
     ∷ accepted (λ packet. came_by (codes "lo") packet.origin)
-    ∷ record { hits = λ packet. is_invalid packet.state; effect = decide verdict.Drop }
-    ∷ []
+    ∷ invalid_items config
 
 -- this is decided, and nothing logged
 abbrev pub decided_as : Verdict → Walked
@@ -119,27 +132,45 @@ abbrev pub zone_walk : Config → Packet → Option Zone → Walked
 zone_walk config packet None = nothing
 zone_walk config packet (Some zone) = walk (items config zone.rules zone.inversion) packet
 
--- The zone's target (firewalld.zone(5), `target`), for what nothing else decided: under `default` ICMP is accepted, and all
--- others are rejected.
-abbrev pub target_to_host : ZoneTarget → Packet → Verdict
-target_to_host target.Accept packet = verdict.Accept
-target_to_host target.Drop packet = verdict.Drop
-target_to_host target.Reject packet = reject
-target_to_host target.Default packet = if is_icmp packet then verdict.Accept else reject
+-- The zone's target (firewalld.zone(5), `target`), for what nothing else decided. Under `default` packets are rejected.
+abbrev pub target_forwarded : ZoneTarget → Verdict
+target_forwarded target.Accept = verdict.Accept
+target_forwarded target.Drop = verdict.Drop
+target_forwarded target.Reject = reject
+target_forwarded target.Default = reject
+
+-- the line before what it denies, where denied packets are told of
+abbrev pub target_lines : Config → (front name : List ℕ) → ZoneTarget → List Item
+target_lines config front name target.Accept = []
+target_lines config front name target.Drop = denial_item config (drop_prefix front name) ∷ []
+target_lines config front name target.Reject = denial_item config (reject_prefix front name) ∷ []
+target_lines config front name target.Default = denial_item config final_prefix ∷ []
+
+-- Under `default` ICMP to the host is accepted before.
+abbrev pub icmp_accepted : ZoneTarget → List Item
+icmp_accepted target.Accept = []
+icmp_accepted target.Drop = []
+icmp_accepted target.Reject = []
+icmp_accepted target.Default = accepted is_icmp ∷ []
 
 -- A packet of no zone is dropped. There is one only where the default zone isn't there.
-abbrev pub to_host_end : Packet → Option Zone → Walked
-to_host_end packet None = decided_as verdict.Drop
-to_host_end packet (Some zone) = decided_as (target_to_host zone.target packet)
+abbrev pub to_host_end : Config → Packet → Option Zone → Walked
+to_host_end config packet None = decided_as verdict.Drop
+to_host_end config packet (Some zone) =
+    in_turn
+    (walk (icmp_accepted zone.target) packet
+    ∷ walk (target_lines config input_front zone.name zone.target) packet
+    ∷ decided_as (target_forwarded zone.target)
+    ∷ [])
 
 abbrev pub to_host : Config → Packet → Walked
 to_host config packet =
     in_turn
-    (walk early_items packet
+    (walk (early_items config) packet
     ∷ policies_before config packet (in_zone (ingress config packet)) at_host
     ∷ zone_walk config packet (ingress config packet)
     ∷ policies_behind config packet (in_zone (ingress config packet)) at_host
-    ∷ to_host_end packet (ingress config packet)
+    ∷ to_host_end config packet (ingress config packet)
     ∷ [])
 
 -- 6. Forwarded: packets may go from a zone to the zone itself where it says `forward` (firewalld.zone(5)).
@@ -151,25 +182,23 @@ stays_within None to = false
 abbrev pub forward_walk : Option Zone → Option Zone → Walked
 forward_walk from to = if stays_within from to then decided_as verdict.Accept else nothing
 
--- The target of the zone that the packet comes from. Under `default` it is rejected, ICMP too.
-abbrev pub target_forwarded : ZoneTarget → Verdict
-target_forwarded target.Accept = verdict.Accept
-target_forwarded target.Drop = verdict.Drop
-target_forwarded target.Reject = reject
-target_forwarded target.Default = reject
-
-abbrev pub forwarded_end : Option Zone → Walked
-forwarded_end None = decided_as verdict.Drop
-forwarded_end (Some zone) = decided_as (target_forwarded zone.target)
+-- The target of the zone that the packet comes from. Under `default` ICMP is rejected, too.
+abbrev pub forwarded_end : Config → Packet → Option Zone → Walked
+forwarded_end config packet None = decided_as verdict.Drop
+forwarded_end config packet (Some zone) =
+    in_turn
+    (walk (target_lines config forward_front zone.name zone.target) packet
+    ∷ decided_as (target_forwarded zone.target)
+    ∷ [])
 
 abbrev pub forwarded : Config → Packet → List ℕ → Walked
 forwarded config packet name =
     in_turn
-    (walk early_items packet
+    (walk (early_items config) packet
     ∷ policies_before config packet (in_zone (ingress config packet)) (in_zone (egress config packet name))
     ∷ forward_walk (ingress config packet) (egress config packet name)
     ∷ policies_behind config packet (in_zone (ingress config packet)) (in_zone (egress config packet name))
-    ∷ forwarded_end (ingress config packet)
+    ∷ forwarded_end config packet (ingress config packet)
     ∷ [])
 
 -- 7. From the host: packets of connections that were let in and those that leave by `lo` are accepted, and all others behind the
@@ -194,31 +223,48 @@ filtered config packet (origin.Link from) (via.Link name) = forwarded config pac
 filtered config packet origin.Host via.Local = from_host config packet (codes "lo")
 filtered config packet origin.Host (via.Link name) = from_host config packet name
 
--- 8. Postrouting, for a packet that was accepted. Whether it leaves with the host's own address, and what was logged.
-pub record Postrouted : Type 0 where
-  pub masquerade : Bool
-  pub logs : List LogLine
+-- 8. Postrouting, of a packet that was accepted, begins a connection and leaves by an interface other than `lo`: by the zone that it goes
+-- to it may leave with the host's own address, whether it is forwarded or the host's own.
+abbrev pub leaves_by : Origin → Via → Option (List ℕ)
+leaves_by (origin.Link from) via.Local = None
+leaves_by (origin.Link from) (via.Link name) = Some name
+leaves_by origin.Host via.Local = Some (codes "lo")
+leaves_by origin.Host (via.Link name) = Some name
 
--- Masquerade: none yet.
-abbrev pub postrouted : Config → Packet → Via → Verdict → Postrouted
-postrouted config packet leaving chosen = record { masquerade = false; logs = [] }
+abbrev pub is_accept : Verdict → Bool
+is_accept verdict.Accept = true
+is_accept verdict.Drop = false
+is_accept (verdict.Reject type) = false
 
--- the steps from 2 on, one after another
-abbrev pub passed : Config → Packet → Outcome
-passed config packet =
-    let marks = marked config packet in
-    let translation = translated config marks.packet in
-    let leaving = routed translation in
-    let filter = filtered config translation.packet translation.packet.origin leaving in
+abbrev pub may_masquerade : Verdict → CtState → List ℕ → Bool
+may_masquerade chosen state name = is_accept chosen && (is_new state && not (bytes_eq name (codes "lo")))
+
+abbrev pub postrouted : Config → Verdict → Option (List ℕ) → Passing → Passing
+postrouted config chosen None now = now
+postrouted config chosen (Some name) now =
+    if may_masquerade chosen now.packet.state name then (through (leaving_by config now.packet name) now).now else now
+
+-- what becomes of a packet, at the end
+abbrev pub outcome_of : Verdict → Passing → Outcome
+outcome_of chosen now =
+    record { verdict = chosen; mark = now.packet.mark; dnat = now.dnat; masquerade = now.masquerade; logs = now.logs }
+
+abbrev pub with_lines : List LogLine → Passing → Passing
+with_lines lines now = record now { logs = now.logs ++ lines }
+
+-- The steps from 4 on, one after another. What is refused keeps its mark and its translation.
+abbrev pub routed_on : Config → Via → Passing → Outcome
+routed_on config leaving now =
+    let filter = filtered config now.packet now.packet.origin leaving in
     let chosen = unwrap_or filter.decided verdict.Drop in
-    let end = postrouted config translation.packet leaving chosen in
-    record {
-      verdict = chosen;
-      mark = marks.packet.mark;
-      dnat = translation.dnat;
-      masquerade = end.masquerade;
-      logs = marks.logs ++ translation.logs ++ filter.logs ++ end.logs;
-    }
+    outcome_of chosen (postrouted config chosen (leaves_by now.packet.origin leaving) (with_lines filter.logs now))
+
+abbrev pub behind_prerouting : Config → Passing → Outcome
+behind_prerouting config now = routed_on config (routed now) now
+
+-- the steps from 2 on
+abbrev pub passed : Config → Packet → Outcome
+passed config packet = behind_prerouting config (translated config (marked config (first_passing packet)))
 
 -- What becomes of a packet.
 abbrev pub way : Runtime → Packet → Outcome

@@ -27,7 +27,8 @@ pub enum End<'a> {
     Zone(Option<&'a Zone>),
 }
 
-fn names(name: &str, side: &[Text]) -> bool
+/// Whether a side of a policy has this name.
+pub fn names(name: &str, side: &[Text]) -> bool
     ensures { result ≡ names name.now side.now }
 {
     side.iter().any(|one| one.as_str() == name)
@@ -51,7 +52,8 @@ fn applies(policy: &Policy, from: End<'_>, to: End<'_>) -> bool
     stands_for(policy.ingress.as_slice(), from) && stands_for(policy.egress.as_slice(), to)
 }
 
-fn acts_at(stage: Stage, policy: &Policy) -> bool
+/// Whether a policy acts at a stage.
+pub fn acts_at(stage: Stage, policy: &Policy) -> bool
     ensures { result ≡ acts_at stage policy.now }
 {
     match stage {

@@ -41,7 +41,8 @@ fn is_mark(act: Act) -> bool
     }
 }
 
-fn marks(action: &Option<Action>) -> bool
+/// Whether an action marks.
+pub fn marks(action: &Option<Action>) -> bool
     ensures { result ≡ marks action.now }
 {
     match action {
@@ -147,7 +148,8 @@ pub fn rules_in<'a>(alloc: Global, part: Part, rules: &'a [Rich]) -> Result<Vec<
     by_priority(rules_of(alloc, part, rules)?)
 }
 
-fn passes(limit: &Option<Limit>, packet: &Packet) -> bool
+/// Whether a limit is passed; there is none to pass where none is given.
+pub fn passes(limit: &Option<Limit>, packet: &Packet) -> bool
     ensures { result ≡ passes limit.now packet.now }
 {
     match limit {
@@ -157,7 +159,12 @@ fn passes(limit: &Option<Limit>, packet: &Packet) -> bool
 }
 
 /// Logs the line of a rule's `log`, where its limit is passed.
-fn log(alloc: Global, rule: &Rich, packet: &Packet, logs: &mut Seq<LogLine>) -> Result<(), Memory>
+pub fn log(
+    alloc: Global,
+    rule: &Rich,
+    packet: &Packet,
+    logs: &mut Seq<LogLine>,
+) -> Result<(), Memory>
     ensures { IfOk result (λ _. logs.new ≡ logs.old ++ log_given packet.now rule.now.log) }
 {
     let Some(log) = &rule.log else {

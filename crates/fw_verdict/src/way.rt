@@ -1,20 +1,21 @@
 //! The way of a packet through the firewall.
-ghost use Rattle.std.specs.Prelude.{◌≡◌, codes, IfOk, Some, unwrap_or};
+ghost use Rattle.std.specs.Prelude.{◌≡◌, true, IfOk, None, Some, [], unwrap_or, Option, ℕ};
 ghost use Rattle.std.specs.List.{find};
 ghost use Rattle.std.specs.Option.{option_copied};
 ghost use Rattle.fw_addr.specs.Subnets.{in_net};
-ghost use Rattle.fw_model.specs.Packets.{came_by};
+ghost use Rattle.fw_addr.specs.declared.dnat.Dnat.{Dnat};
 ghost use Rattle.fw_model.specs.declared.packet.Via.TheVariants as via;
-ghost use Rattle.fw_verdict.specs.Given.{Walks};
-ghost use Rattle.fw_verdict.specs.Walk.{silently, walk};
-ghost use Rattle.fw_verdict.specs.Way.{decided_as, early_items, filtered, forwarded, forwarded_end, from_host, is_invalid, is_known, route, stays_within, target_forwarded, target_to_host, to_host, to_host_end, way, zone_walk};
+ghost use Rattle.fw_verdict.specs.Changes.{with_mark};
+ghost use Rattle.fw_verdict.specs.Given.{IsUnmoved, masked, moved_by, sent_on, standing};
+ghost use Rattle.fw_verdict.specs.Way.{behind_prerouting, is_accept, is_new, leaves_by, marked, may_masquerade, panicked, passed, postrouted, route, routed_by, sends_to, translated, way};
 
-use crate::items::{REJECT, walk_rules};
-use crate::policies::{End, Stage, walk_policies};
-use fw_addr::{CtState, LogLine, Net};
-use fw_base::{Memory, Seq};
-use fw_hits::{egress, ingress, is_icmp};
-use fw_model::{Config, Origin, Outcome, Packet, Runtime, Verdict, Via, Zone, ZoneTarget};
+use crate::filter::filtered;
+use crate::marks;
+use crate::masquerade::masquerades;
+use crate::translation::target;
+use fw_addr::{Addr, CtState, Dnat, LogLine, Net};
+use fw_base::{Memory, Seq, TryCopy};
+use fw_model::{Config, Origin, Outcome, Packet, Runtime, Verdict, Via};
 use std::alloc::Global;
 
 /// What becomes of a packet under the settings in force (firewalld.zone(5)): its verdict, its mark, the translation of its
@@ -24,17 +25,124 @@ use std::alloc::Global;
 pub fn verdict(alloc: Global, runtime: &Runtime, packet: &Packet) -> Result<Outcome, Memory>
     ensures { IfOk result (λ outcome. outcome ≡ way runtime.now packet.now) }
 {
-    let mut logs = Seq::new(alloc);
-    let verdict = if runtime.panic {
-        Verdict::Drop
-    } else {
-        filtered(alloc, &runtime.config, packet, &mut logs)?
-    };
-    Ok(Outcome {
-        verdict,
+    if runtime.panic {
+        return Ok(panicked(alloc, packet));
+    }
+    passed(alloc, &runtime.config, packet)
+}
+
+/// In panic mode every packet is dropped, with its own mark.
+fn panicked(alloc: Global, packet: &Packet) -> Outcome
+    ensures { result ≡ panicked packet.now }
+{
+    Outcome {
+        verdict: Verdict::Drop,
         mark: packet.mark,
         dnat: None,
         masquerade: false,
+        logs: Seq::new(alloc),
+    }
+}
+
+/// Whether a mark and a destination leave a packet as it is.
+fn is_unmoved(packet: &Packet, mark: u32, dnat: Option<Dnat>) -> bool
+    ensures { result ≡ true → IsUnmoved packet.now mark dnat }
+{
+    mark == packet.mark && dnat.is_none()
+}
+
+/// The steps before routing, and then the others. A packet that these change is copied.
+fn passed(alloc: Global, config: &Config, packet: &Packet) -> Result<Outcome, Memory>
+    ensures { IfOk result (λ outcome. outcome ≡ passed config.now packet.now) }
+{
+    let mut logs = Seq::new(alloc);
+    let mark = mark(alloc, config, packet, &mut logs)?;
+    let dnat = translation(alloc, config, packet, &mut logs)?;
+    if is_unmoved(packet, mark, dnat) {
+        return go_on(alloc, config, packet, None, logs);
+    }
+    let moved = moved(alloc, packet, mark, dnat)?;
+    go_on(alloc, config, &moved, dnat, logs)
+}
+
+/// The mark of a packet. One of the host keeps its own.
+fn mark(
+    alloc: Global,
+    config: &Config,
+    packet: &Packet,
+    logs: &mut Seq<LogLine>,
+) -> Result<u32, Memory>
+    ensures { IfOk result (λ mark. marked config.now (standing packet.now None logs.old) ≡ standing (with_mark mark packet.now) None logs.new) }
+{
+    match &packet.origin {
+        Origin::Host => Ok(packet.mark),
+        Origin::Link(_) => marks::marked(alloc, config, packet, logs),
+    }
+}
+
+fn is_new(state: CtState) -> bool
+    ensures { result ≡ is_new state }
+{
+    match state {
+        CtState::New => true,
+        _ => false,
+    }
+}
+
+/// To where a packet is sent in place of its destination. One of the host, and one that begins no connection, keeps its own.
+fn translation(
+    alloc: Global,
+    config: &Config,
+    packet: &Packet,
+    logs: &mut Seq<LogLine>,
+) -> Result<Option<Dnat>, Memory>
+    ensures { IfOk result (λ found. (mark : ℕ) → translated config.now (standing (with_mark mark packet.now) None logs.old) ≡ (sent_on found (standing (with_mark mark packet.now) None logs.new)).now) }
+{
+    match &packet.origin {
+        Origin::Host => Ok(None),
+        Origin::Link(_) => {
+            if is_new(packet.state) {
+                target(alloc, config, packet, logs)
+            } else {
+                Ok(None)
+            }
+        }
+    }
+}
+
+/// A packet with another mark, and where it is sent with another destination.
+fn moved(alloc: Global, packet: &Packet, mark: u32, dnat: Option<Dnat>) -> Result<Packet, Memory>
+    ensures { IfOk result (λ moved. moved ≡ moved_by dnat (with_mark mark packet.now)) }
+{
+    let mut moved = packet.copy(alloc)?;
+    moved.mark = mark;
+    if let Some(dnat) = dnat {
+        moved.dst = dnat.addr.unwrap_or(packet.dst);
+        moved.dport = dnat.port.unwrap_or(packet.dport);
+        moved.dnat = true;
+    }
+    Ok(moved)
+}
+
+/// The steps from routing on.
+fn go_on(
+    alloc: Global,
+    config: &Config,
+    packet: &Packet,
+    dnat: Option<Dnat>,
+    logs: Seq<LogLine>,
+) -> Result<Outcome, Memory>
+    ensures { IfOk result (λ outcome. outcome ≡ behind_prerouting config.now (standing packet.now dnat logs)) }
+{
+    let mut logs = logs;
+    let leaving = routed(packet, dnat);
+    let verdict = filtered(alloc, config, packet, leaving, &mut logs)?;
+    let masquerade = postrouted(alloc, config, packet, leaving, verdict, &mut logs)?;
+    Ok(Outcome {
+        verdict,
+        mark: packet.mark,
+        dnat,
+        masquerade,
         logs,
     })
 }
@@ -60,257 +168,71 @@ fn route(packet: &Packet) -> Option<&Via>
     }
 }
 
-/// What is decided of a packet. The lines that are logged come behind those that are there.
-fn filtered(
-    alloc: Global,
-    config: &Config,
-    packet: &Packet,
-    logs: &mut Seq<LogLine>,
-) -> Result<Verdict, Memory>
-    ensures { IfOk result (λ verdict. Walks (filtered config.now packet.now packet.now.origin (route packet.now)) logs.old logs.new (Some verdict)) }
+/// Where a packet goes behind a translation; one without an address sends it to the host. None: to the host, too.
+fn routed(packet: &Packet, dnat: Option<Dnat>) -> Option<&Via>
+    ensures { unwrap_or (option_copied result) via.Local ≡ routed_by dnat (route packet.now) }
 {
-    match &packet.origin {
-        Origin::Host => match route(packet) {
-            Some(Via::Link(name)) => from_host(alloc, config, packet, name.as_str(), logs),
-            Some(Via::Local) => from_host(alloc, config, packet, "lo", logs),
-            None => from_host(alloc, config, packet, "lo", logs),
-        },
-        Origin::Link(_) => match route(packet) {
-            Some(Via::Link(name)) => forwarded(alloc, config, packet, name.as_str(), logs),
-            Some(Via::Local) => to_host(alloc, config, packet, logs),
-            None => to_host(alloc, config, packet, logs),
+    match dnat {
+        None => route(packet),
+        Some(dnat) => match dnat.addr {
+            Some(_) => route(packet),
+            None => None,
         },
     }
 }
 
-fn is_known(state: CtState) -> bool
-    ensures { result ≡ is_known state }
+/// By which interface a packet leaves, if it does. What the host sends to itself leaves by `lo`.
+fn leaves_by<'a>(origin: &Origin, leaving: Option<&'a Via>) -> Option<&'a str>
+    ensures { option_copied result ≡ leaves_by origin.now (unwrap_or (option_copied leaving.entry) via.Local) }
 {
-    match state {
-        CtState::Established => true,
-        CtState::Related => true,
-        _ => false,
+    match leaving {
+        Some(Via::Link(name)) => Some(name.as_str()),
+        Some(Via::Local) => by_lo(origin),
+        None => by_lo(origin),
     }
 }
 
-fn is_invalid(state: CtState) -> bool
-    ensures { result ≡ is_invalid state }
-{
-    match state {
-        CtState::Invalid => true,
-        _ => false,
-    }
-}
-
-fn came_by_lo(origin: &Origin) -> bool
-    ensures { result ≡ came_by (codes "lo") origin.now }
+fn by_lo(origin: &Origin) -> Option<&'static str>
+    ensures { option_copied result ≡ leaves_by origin.now via.Local }
 {
     match origin {
-        Origin::Host => false,
-        Origin::Link(name) => name.as_str() == "lo",
+        Origin::Host => Some("lo"),
+        Origin::Link(_) => None,
     }
 }
 
-/// What is decided of a packet to the host or through it without any zone's settings.
-fn early(packet: &Packet) -> Option<Verdict>
-    ensures { walk early_items packet.now ≡ silently result }
+fn is_accept(verdict: Verdict) -> bool
+    ensures { result ≡ is_accept verdict }
 {
-    if is_known(packet.state) || packet.dnat || came_by_lo(&packet.origin) {
-        Some(Verdict::Accept)
-    } else if is_invalid(packet.state) {
-        Some(Verdict::Drop)
-    } else {
-        None
+    match verdict {
+        Verdict::Accept => true,
+        _ => false,
     }
 }
 
-fn target_to_host(target: ZoneTarget, packet: &Packet) -> Verdict
-    ensures { result ≡ target_to_host target packet.now }
+fn may_masquerade(verdict: Verdict, state: CtState, name: &str) -> bool
+    ensures { result ≡ may_masquerade verdict state name.now }
 {
-    match target {
-        ZoneTarget::Accept => Verdict::Accept,
-        ZoneTarget::Drop => Verdict::Drop,
-        ZoneTarget::Reject => REJECT,
-        ZoneTarget::Default => {
-            if is_icmp(packet) {
-                Verdict::Accept
-            } else {
-                REJECT
-            }
-        }
-    }
+    is_accept(verdict) && is_new(state) && name != "lo"
 }
 
-/// What the settings of a zone decide of a packet to the host, if anything.
-fn walk_zone(
-    alloc: Global,
-    config: &Config,
-    zone: Option<&Zone>,
-    packet: &Packet,
-    logs: &mut Seq<LogLine>,
-) -> Result<Option<Verdict>, Memory>
-    ensures { IfOk result (λ decided. Walks (zone_walk config.now packet.now (option_copied zone.entry)) logs.old logs.new decided) }
-{
-    match zone {
-        Some(zone) => walk_rules(alloc, config, &zone.rules, zone.inversion, packet, logs),
-        None => Ok(None),
-    }
-}
-
-/// What a zone's target decides of a packet to the host. A packet of no zone is dropped.
-fn end_to_host(zone: Option<&Zone>, packet: &Packet) -> Verdict
-    ensures { to_host_end packet.now (option_copied zone.entry) ≡ decided_as result }
-{
-    match zone {
-        Some(zone) => target_to_host(zone.target, packet),
-        None => Verdict::Drop,
-    }
-}
-
-fn to_host(
+/// Whether a packet leaves with the host's own address: one that was accepted, begins a connection and leaves by an interface other
+/// than `lo` may.
+fn postrouted(
     alloc: Global,
     config: &Config,
     packet: &Packet,
+    leaving: Option<&Via>,
+    verdict: Verdict,
     logs: &mut Seq<LogLine>,
-) -> Result<Verdict, Memory>
-    ensures { IfOk result (λ verdict. Walks (to_host config.now packet.now) logs.old logs.new (Some verdict)) }
+) -> Result<bool, Memory>
+    ensures { IfOk result (λ found. (dnat : Option Dnat) → postrouted config.now verdict (leaves_by packet.now.origin (unwrap_or (option_copied leaving.entry) via.Local)) (standing packet.now dnat logs.old) ≡ (masked found (standing packet.now dnat logs.new)).now) }
 {
-    if let Some(verdict) = early(packet) {
-        return Ok(verdict);
-    }
-    let zone = ingress(config, packet);
-    let from = End::Zone(zone);
-    let before = walk_policies(
-        alloc,
-        config,
-        Stage::BeforeZone,
-        from,
-        End::Host,
-        packet,
-        logs,
-    )?;
-    if let Some(verdict) = before {
-        return Ok(verdict);
-    }
-    if let Some(verdict) = walk_zone(alloc, config, zone, packet, logs)? {
-        return Ok(verdict);
-    }
-    let behind = walk_policies(
-        alloc,
-        config,
-        Stage::BehindZone,
-        from,
-        End::Host,
-        packet,
-        logs,
-    )?;
-    if let Some(verdict) = behind {
-        return Ok(verdict);
-    }
-    Ok(end_to_host(zone, packet))
-}
-
-/// Whether a forwarded packet stays within a zone that lets packets go from it to itself.
-pub fn stays_within(from: Option<&Zone>, to: Option<&Zone>) -> bool
-    ensures { result ≡ stays_within (option_copied from.entry) (option_copied to.entry) }
-{
-    let Some(from) = from else {
-        return false;
+    let Some(name) = leaves_by(&packet.origin, leaving) else {
+        return Ok(false);
     };
-    match to {
-        Some(to) => from.name.as_str() == to.name.as_str() && from.forward,
-        None => false,
+    if !may_masquerade(verdict, packet.state, name) {
+        return Ok(false);
     }
-}
-
-/// What a zone's target decides of a forwarded packet (firewalld.zone(5), `target`).
-pub fn target_forwarded(target: ZoneTarget) -> Verdict
-    ensures { result ≡ target_forwarded target }
-{
-    match target {
-        ZoneTarget::Accept => Verdict::Accept,
-        ZoneTarget::Drop => Verdict::Drop,
-        ZoneTarget::Reject => REJECT,
-        ZoneTarget::Default => REJECT,
-    }
-}
-
-/// What a zone's target decides of a forwarded packet. A packet of no zone is dropped.
-fn end_forwarded(zone: Option<&Zone>) -> Verdict
-    ensures { forwarded_end (option_copied zone.entry) ≡ decided_as result }
-{
-    match zone {
-        Some(zone) => target_forwarded(zone.target),
-        None => Verdict::Drop,
-    }
-}
-
-fn forwarded(
-    alloc: Global,
-    config: &Config,
-    packet: &Packet,
-    name: &str,
-    logs: &mut Seq<LogLine>,
-) -> Result<Verdict, Memory>
-    ensures { IfOk result (λ verdict. Walks (forwarded config.now packet.now name.now) logs.old logs.new (Some verdict)) }
-{
-    if let Some(verdict) = early(packet) {
-        return Ok(verdict);
-    }
-    let zone = ingress(config, packet);
-    let other = egress(config, packet, name);
-    let from = End::Zone(zone);
-    let to = End::Zone(other);
-    let before = walk_policies(alloc, config, Stage::BeforeZone, from, to, packet, logs)?;
-    if let Some(verdict) = before {
-        return Ok(verdict);
-    }
-    if stays_within(zone, other) {
-        return Ok(Verdict::Accept);
-    }
-    let behind = walk_policies(alloc, config, Stage::BehindZone, from, to, packet, logs)?;
-    if let Some(verdict) = behind {
-        return Ok(verdict);
-    }
-    Ok(end_forwarded(zone))
-}
-
-fn from_host(
-    alloc: Global,
-    config: &Config,
-    packet: &Packet,
-    name: &str,
-    logs: &mut Seq<LogLine>,
-) -> Result<Verdict, Memory>
-    ensures { IfOk result (λ verdict. Walks (from_host config.now packet.now name.now) logs.old logs.new (Some verdict)) }
-{
-    if is_known(packet.state) {
-        return Ok(Verdict::Accept);
-    }
-    if name == "lo" {
-        return Ok(Verdict::Accept);
-    }
-    let to = End::Zone(egress(config, packet, name));
-    let before = walk_policies(
-        alloc,
-        config,
-        Stage::BeforeZone,
-        End::Host,
-        to,
-        packet,
-        logs,
-    )?;
-    if let Some(verdict) = before {
-        return Ok(verdict);
-    }
-    let behind = walk_policies(
-        alloc,
-        config,
-        Stage::BehindZone,
-        End::Host,
-        to,
-        packet,
-        logs,
-    )?;
-    Ok(behind.unwrap_or(Verdict::Accept))
+    masquerades(alloc, config, packet, name, logs)
 }

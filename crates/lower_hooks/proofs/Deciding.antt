@@ -20,7 +20,8 @@ use Rattle.fw_verdict.specs.Policies.{decided_by_target}
 use Rattle.fw_verdict.specs.Walk.{Walked, nothing, or_then, silently, walk}
 use Rattle.fw_model.specs.declared.zone.ZoneTarget.{ZoneTarget}
 use Rattle.fw_model.specs.declared.zone.ZoneTarget.TheVariants as zone_target
-use Rattle.fw_verdict.specs.Way.{target_forwarded, early_items, is_known, is_invalid, known_item, lo_walk}
+use Rattle.fw_verdict.specs.FilterWay.{early_items}
+use Rattle.fw_verdict.specs.Way.{target_forwarded, is_known, is_invalid, known_item, lo_walk}
 use Rattle.lower_hooks.specs.Rules.{always, default_rules, early_rules, known_rules, lo_out, where_is}
 use Rattle.lower_zone.proofs.Alternatives.{each_decides}
 use Rattle.lower_zone.proofs.Sequences.{both_do}

@@ -15,7 +15,8 @@ use Rattle.fw_verdict.specs.Items.{items}
 use Rattle.fw_verdict.specs.Policies.{decided_by_target, policies_at, policy_walk, walk_all}
 use Rattle.fw_verdict.specs.Policies.End.{at_host, in_zone}
 use Rattle.fw_verdict.specs.Walk.{Walked, nothing, silently, walk}
-use Rattle.fw_verdict.specs.Way.{decided_as, forward_walk, policies_before, policies_behind, stays_within, target_forwarded, target_to_host, zone_walk}
+use Rattle.fw_verdict.specs.FilterWay.{target_to_host}
+use Rattle.fw_verdict.specs.Way.{decided_as, forward_walk, policies_before, policies_behind, stays_within, target_forwarded, zone_walk}
 use Rattle.fw_verdict.specs.declared.policies.Stage.TheVariants as stage
 use Rattle.lower_hooks.specs.Listed.{decided_rules, forward_rules, input_rules, jump_where, output_rules, policy_jump, policy_rules, rules_at, target_rules, within_rules, zone_jump}
 use Rattle.lower_hooks.specs.Rules.{always}

@@ -11,7 +11,8 @@ use Rattle.fw_model.specs.declared.packet.Via.{Via}
 use Rattle.fw_model.specs.declared.packet.Via.TheVariants as via
 use Rattle.fw_model.specs.declared.runtime.Runtime.{Runtime}
 use Rattle.fw_model.specs.declared.zone.Zone.{Zone}
-use Rattle.fw_verdict.specs.Way.{filtered, forwarded, from_host, route, to_host, way}
+use Rattle.fw_verdict.specs.FilterWay.{filter_way, filtered, forwarded, to_host}
+use Rattle.fw_verdict.specs.Way.{from_host, route}
 use Rattle.lower_hooks.specs.Stands.{Works}
 use Rattle.lower_hooks.proofs.Passing.{PassesAs, evaluates, one_as, two_as, zone_is}
 use Rattle.lower_dispatch.specs.Laws.{PacketsUseZones}
@@ -80,7 +81,7 @@ module _ (law : PacketsUseZones) (config : Config) (rules : Ruleset) (works : Wo
 pub outcomes : PacketsUseZones → (rules : Ruleset) (runtime : Runtime)
     → runtime.panic ≡ false
     → Works runtime.config rules
-    → (packet : Packet) → IsPacket packet → Eval rules packet (way runtime packet)
+    → (packet : Packet) → IsPacket packet → Eval rules packet (filter_way runtime packet)
 outcomes law rules runtime calm works packet is_packet =
     evaluates rules runtime packet calm works.bases.at_prerouting
     (passes_as law runtime.config rules works packet is_packet packet.origin (route packet) refl)

@@ -14,7 +14,8 @@ use Rattle.fw_model.specs.declared.packet.Packet.{Packet}
 use Rattle.fw_model.specs.declared.runtime.Runtime.{Runtime}
 use Rattle.fw_model.specs.declared.zone.Zone.{Zone}
 use Rattle.fw_verdict.specs.Walk.{Walked}
-use Rattle.fw_verdict.specs.Way.{filtered, passed, panicked, route, way}
+use Rattle.fw_verdict.specs.FilterWay.{filter_passed, filter_way, filtered}
+use Rattle.fw_verdict.specs.Way.{panicked, route}
 use Rattle.lower_hooks.specs.Stands.{NoneAt, OneAt}
 use Rattle.lower_hooks.specs.Chains.{EndAs}
 use Rattle.lower_zone.specs.Evaluates.{behind_lines}
@@ -96,22 +97,21 @@ ended packet decided logs = record { verdict = unwrap_or decided verdict.Drop; m
 
 outcome_is : (packet : Packet) (walked : Walked) (chosen : Verdict) (count : ℕ)
     → walked.decided ≡ Some chosen
-    → ended packet walked.decided (walked.logs ++ []) ≡ outcome_of chosen (behind_lines walked.logs count (first_moment packet))
-outcome_is packet walked chosen count is =
-    ap (λ (decided : Option Verdict). ended packet decided (walked.logs ++ [])) is ∙ ap (ended packet (Some chosen)) (append-nil walked.logs)
+    → ended packet walked.decided walked.logs ≡ outcome_of chosen (behind_lines walked.logs count (first_moment packet))
+outcome_is packet walked chosen count is = ap (λ (decided : Option Verdict). ended packet decided walked.logs) is
 
 pub evaluates : (rules : Ruleset) (runtime : Runtime) (packet : Packet)
     → runtime.panic ≡ false
     → NoneAt rules hook.Prerouting
     → PassesAs rules packet (stops_behind packet.origin (route packet)) (filtered runtime.config packet packet.origin (route packet))
-    → Eval rules packet (way runtime packet)
+    → Eval rules packet (filter_way runtime packet)
 evaluates rules runtime packet calm none passes =
     let walked = filtered runtime.config packet packet.origin (route packet) in
     record {
       verdict = passes.verdict;
       end = behind_lines walked.logs passes.looked_at (first_moment packet);
       goes = routed_on (passes_before rules packet.origin (first_moment packet) none) passes.passes;
-      is = ap (λ (panic : Bool). if panic then panicked packet else passed runtime.config packet) calm
+      is = ap (λ (panic : Bool). if panic then panicked packet else filter_passed runtime.config packet) calm
           ∙ outcome_is packet walked passes.verdict passes.looked_at passes.decides;
     }
 

@@ -10,7 +10,8 @@ use Rattle.fw_model.specs.declared.packet.Packet.{Packet}
 use Rattle.fw_model.specs.declared.zone.Zone.{Zone}
 use Rattle.fw_verdict.specs.Policies.End.{at_host, in_zone}
 use Rattle.fw_verdict.specs.Walk.{Walked, in_turn, or_then, walk}
-use Rattle.fw_verdict.specs.Way.{decided_as, early_items, forward_walk, forwarded_end, known_item, lo_walk, policies_before, policies_behind, target_forwarded, target_to_host, to_host_end, zone_walk}
+use Rattle.fw_verdict.specs.FilterWay.{early_items, forwarded_end, target_to_host, to_host_end}
+use Rattle.fw_verdict.specs.Way.{decided_as, forward_walk, known_item, lo_walk, policies_before, policies_behind, target_forwarded, zone_walk}
 use Rattle.fw_zone.specs.Lists.{IsIn}
 use Rattle.lower_dispatch.specs.Dispatch.{Dispatches, LeadTo, at_count}
 use Rattle.lower_dispatch.specs.declared.direction.Direction.TheVariants as direction

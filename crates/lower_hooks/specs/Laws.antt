@@ -3,7 +3,7 @@ use Rattle.std.specs.Prelude.{◌≡◌, List, codes, false}
 use Rattle.fw_model.specs.Packets.{IsPacket}
 use Rattle.fw_model.specs.declared.packet.Packet.{Packet}
 use Rattle.fw_model.specs.declared.runtime.Runtime.{Runtime}
-use Rattle.fw_verdict.specs.Way.{way}
+use Rattle.fw_verdict.specs.FilterWay.{filter_way}
 use Rattle.fw_zone.specs.Lists.{IsIn}
 use Rattle.lower_hooks.specs.Chains.{base_chain}
 use Rattle.lower_hooks.specs.Stands.{AreBases, HasBases, Works}
@@ -17,7 +17,7 @@ HooksLeadTheWay =
     (rules : Ruleset) (runtime : Runtime)
     → runtime.panic ≡ false
     → Works runtime.config rules
-    → (packet : Packet) → IsPacket packet → Eval rules packet (way runtime packet)
+    → (packet : Packet) → IsPacket packet → Eval rules packet (filter_way runtime packet)
 
 -- Where three chains are the base chains of a ruleset, each runs at its hook, alone.
 abbrev pub OneRunsAtEach : Type 0

@@ -8,7 +8,8 @@ use Rattle.fw_model.specs.declared.zone.Zone.{Zone}
 use Rattle.fw_verdict.specs.Policies.{policies_at}
 use Rattle.fw_verdict.specs.Policies.End.{at_host, in_zone}
 use Rattle.fw_verdict.specs.Walk.{Walked, in_turn}
-use Rattle.fw_verdict.specs.Way.{decided_as, forward_walk, forwarded_end, policies_before, policies_behind, to_host_end, zone_walk}
+use Rattle.fw_verdict.specs.FilterWay.{forwarded_end, to_host_end}
+use Rattle.fw_verdict.specs.Way.{decided_as, forward_walk, policies_before, policies_behind, zone_walk}
 use Rattle.fw_verdict.specs.declared.policies.Stage.TheVariants as stage
 use Rattle.lower_hooks.specs.Work.{PoliciesStand, ZoneStands}
 use Rattle.nf_rules.specs.declared.ruleset.Ruleset.{Ruleset}

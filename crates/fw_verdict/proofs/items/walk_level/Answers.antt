@@ -2,7 +2,6 @@ use Rattle.std.proofs.Common.{◌++◌, sym}
 use Rattle.std.proofs.lemmas.Result.{IfOk-weaker}
 use Rattle.fw_verdict.specs.Items.{allow_items, deny_items}
 use Rattle.fw_verdict.specs.Rich.{rich_items}
-use Rattle.fw_verdict.specs.Walk.{Item}
 use Rattle.fw_verdict.specs.declared.rich.Part.TheVariants.{Log}
 use Rattle.fw_verdict.proofs.Sequences.{ends, goes_on}
 use Rattle.fw_verdict.proofs.Zones.{none}

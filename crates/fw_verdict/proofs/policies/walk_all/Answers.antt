@@ -1,5 +1,4 @@
-use Rattle.std.proofs.Common.{◌≡◌, sym, subst, None, Option}
-use Rattle.fw_model.specs.declared.outcome.Verdict.{Verdict}
+use Rattle.std.proofs.Common.{sym, None}
 use Rattle.fw_verdict.proofs.PolicyLists.{ends_behind, ends_here, goes_on_here}
 use Rattle.fw_verdict.proofs.Zones.{none}
 use Rattle.fw_verdict.proofs.policies.walk_all.Goals as goal

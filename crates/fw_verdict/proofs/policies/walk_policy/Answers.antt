@@ -1,9 +1,8 @@
-use Rattle.std.proofs.Common.{[], ◌∷◌, false, refl, sym}
+use Rattle.std.proofs.Common.{[], ◌∷◌, false, sym}
 use Rattle.fw_verdict.specs.Items.{items}
 use Rattle.fw_verdict.specs.Policies.{decided_by_target}
 use Rattle.fw_verdict.specs.Walk.{silently, walk}
-use Rattle.fw_verdict.proofs.Turns.{turn_ends, turn_goes_on}
-use Rattle.fw_verdict.proofs.Zones.{keeps_lines, none}
+use Rattle.fw_verdict.proofs.Turns.{turn_ends}
 use Rattle.fw_verdict.proofs.policies.walk_policy.Goals as goal
 
 pub returns-then-is_some : goal.returns-then-is_some

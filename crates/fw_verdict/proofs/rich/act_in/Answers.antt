@@ -1,4 +1,4 @@
-use Rattle.std.proofs.Common.{◌≡◌, ◌∙◌, sym, append-nil}
+use Rattle.std.proofs.Common.{◌∙◌, sym, append-nil}
 use Rattle.fw_verdict.specs.declared.rich.Part.TheVariants.{Allow, Deny, Post, Pre}
 use Rattle.fw_verdict.proofs.RichRules.{acts, misses}
 use Rattle.fw_verdict.proofs.rich.act_in.Goals as goal

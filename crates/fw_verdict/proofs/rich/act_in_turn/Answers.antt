@@ -1,6 +1,5 @@
-use Rattle.std.proofs.Common.{◌≡◌, ◌∙◌, sym, refl, subst, None, Some, Option, List, false}
+use Rattle.std.proofs.Common.{◌≡◌, sym, refl, subst, None, Some, Option, false}
 use Rattle.std.specs.Prelude.{is_some}
-use Rattle.fw_addr.specs.declared.log.LogLine.{LogLine}
 use Rattle.fw_model.specs.declared.outcome.Verdict.{Verdict}
 use Rattle.fw_verdict.specs.Given.{Walks}
 use Rattle.fw_verdict.specs.Rich.{rule_items}
