@@ -74,12 +74,12 @@ impl Play {
     /// | `start` | a daemon starts from the built-in configuration | |
     /// | `settings JSON` | a daemon starts from the permanent settings of this text | |
     /// | `save fails`, `commit fails` | the save or the commit of the next event is to fail | |
-    /// | `# TEXT` | | the line |
+    /// | `# TEXT`, or an empty line | | the line |
     /// | `call K NAME ARGUMENTS`, `end K` | an event | signals, the reply, and what was saved and committed |
     /// | `tick N`, `link up NAME`, `link gone NAME` | an event | the line of its result, signals, and what was saved and committed |
     pub fn line(&mut self, alloc: Global, out: &mut String, line: &str) -> Result<(), PlayError> {
         match line {
-            "" => Ok(()),
+            "" => push_line(out, line),
             "start" => restart(alloc, &mut self.settings),
             "save fails" => {
                 self.save_fails = true;
@@ -89,7 +89,7 @@ impl Play {
                 self.commit_fails = true;
                 Ok(())
             }
-            line if line.starts_with('#') => push_comment(out, line),
+            line if line.starts_with('#') => push_line(out, line),
             line => self.other_line(alloc, out, line),
         }
     }
@@ -177,7 +177,7 @@ fn became(is_needed: bool, fails: bool) -> Applied {
     }
 }
 
-fn push_comment(out: &mut String, line: &str) -> Result<(), PlayError> {
+fn push_line(out: &mut String, line: &str) -> Result<(), PlayError> {
     match write!(out, "{line}\n") {
         Ok(()) => Ok(()),
         Err(_) => Err(PlayError::Memory),

@@ -53,12 +53,7 @@ fn result_of(reply: &Reply) -> Applied {
 }
 
 /// Appends a line where a save or a commit was tried.
-fn push_result(
-    out: &mut String,
-    applied: Applied,
-    done: &str,
-    failed: &str,
-) -> Result<(), Memory> {
+fn push_result(out: &mut String, applied: Applied, done: &str, failed: &str) -> Result<(), Memory> {
     match applied {
         Applied::Skipped => {}
         Applied::Done => out.push_str(done)?,
