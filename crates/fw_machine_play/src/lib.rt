@@ -2,7 +2,12 @@
 //! are written in.
 #![tactic(auto)]
 
+mod error;
 mod play;
+mod script;
 mod told;
 
-pub use play::{Play, PlayError};
+pub use error::PlayError;
+pub use play::Play;
+pub use script::play_script;
+pub use told::Results;

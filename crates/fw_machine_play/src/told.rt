@@ -1,11 +1,18 @@
 //! What is printed of an event.
-use super::play::PlayError;
 use fw_base::Memory;
 use fw_calls::{Applied, Event, Reply, Signal};
 use fw_event_told::{push_link, push_reply, push_signal, push_tick};
 use std::alloc::Global;
 
-/// Appends what a client is told of an event, and what was saved and committed.
+/// What became of an event's save and of its commit.
+#[derive(Clone, Copy, Debug, PartialEq, Eq)]
+pub struct Results {
+    pub save: Applied,
+    pub commit: Applied,
+}
+
+/// Appends what a client is told of an event: of a tick or a link the line of its result, and then signals; else signals, and then the
+/// reply.
 pub fn push_told(
     alloc: Global,
     out: &mut String,
@@ -13,23 +20,21 @@ pub fn push_told(
     event: &Event,
     reply: &Reply,
     signals: &[Signal],
-    became: (Applied, Applied),
-) -> Result<(), PlayError> {
+) -> Result<(), Memory> {
     match event {
-        Event::Tick { now, .. } => push_tick(out, *now, result_of(reply))?,
-        Event::Link { up, name, .. } => push_link(out, *up, name, result_of(reply))?,
-        Event::Open | Event::Call { .. } | Event::Shut { .. } => {}
-    }
-    push_signals(alloc, out, client, signals)?;
-    match event {
-        Event::Tick { .. } | Event::Link { .. } => {}
+        Event::Tick { now, .. } => {
+            push_tick(out, *now, result_of(reply))?;
+            push_signals(alloc, out, client, signals)
+        }
+        Event::Link { up, name, .. } => {
+            push_link(out, *up, name, result_of(reply))?;
+            push_signals(alloc, out, client, signals)
+        }
         Event::Open | Event::Call { .. } | Event::Shut { .. } => {
-            push_reply(alloc, out, client, reply)?;
+            push_signals(alloc, out, client, signals)?;
+            push_reply(alloc, out, client, reply)
         }
     }
-    push_result(out, became.0, "saved\n", "not saved\n")?;
-    push_result(out, became.1, "committed\n", "not committed\n")?;
-    Ok(())
 }
 
 fn push_signals(
@@ -52,7 +57,12 @@ fn result_of(reply: &Reply) -> Applied {
     }
 }
 
-/// Appends a line where a save or a commit was tried.
+/// Appends a line for a save and for a commit that was tried.
+pub fn push_results(out: &mut String, results: Results) -> Result<(), Memory> {
+    push_result(out, results.save, "saved\n", "not saved\n")?;
+    push_result(out, results.commit, "committed\n", "not committed\n")
+}
+
 fn push_result(out: &mut String, applied: Applied, done: &str, failed: &str) -> Result<(), Memory> {
     match applied {
         Applied::Skipped => {}
