@@ -1,5 +1,6 @@
-//! Calls of the interface of zones on the settings machine, each well and with each of its refusals
-//! (`fw_machine_play` has the language). The file stdout beside src/ was worked out by hand from the rules in docs/PROFILE.md.
+//! Calls of each interface on the settings machine, each well and with each of its refusals in their order: zones, the firewall as a whole,
+//! ipsets, policies, the permanent settings, and their zones and policies as objects (`fw_machine_play` has the language). The file stdout
+//! beside src/ was worked out by hand from the rules in docs/PROFILE.md.
 #![tactic(auto)]
 
 use anyhow::{Result, anyhow};
