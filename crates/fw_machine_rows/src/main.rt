@@ -1,0 +1,15 @@
+//! Plays runs of events on the settings machine: timeouts, reloads, links, failed saves and commits, and what packets meet meanwhile
+//! (`fw_machine_play` has the language). The file stdout beside src/ was worked out by hand from the rules in docs/PROFILE.md.
+#![tactic(auto)]
+
+use anyhow::{Result, anyhow};
+use fw_machine_play::play_script;
+use std::io;
+use std::io::Input;
+
+fn main(rt: HostRuntime) -> Result<()> {
+    let script = io::read_to_string(rt.alloc(), rt.reader())?;
+    let told = play_script(rt.alloc(), script.as_str()).map_err(|_| anyhow!("no memory"))?;
+    print!(rt; "{}", told.as_str())?;
+    Ok(())
+}
