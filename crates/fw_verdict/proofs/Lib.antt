@@ -3,6 +3,7 @@ mod Givers
 mod Placed
 mod Ports
 mod Prerouted
+pub mod Lines
 pub mod PolicyLists
 pub mod RichLists
 pub mod RichRules
