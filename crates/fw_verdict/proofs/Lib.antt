@@ -11,6 +11,7 @@ pub mod Sequences
 pub mod Settings
 pub mod Through
 pub mod Turns
+pub mod Unmarked
 pub mod Unseen
 pub mod Walks
 pub mod Zones
