@@ -5,7 +5,7 @@ use Rattle.fw_addr.specs.declared.dnat.Dnat.{Dnat}
 use Rattle.fw_addr.specs.declared.log.LogLine.{LogLine}
 use Rattle.fw_model.specs.declared.packet.Packet.{Packet}
 use Rattle.fw_verdict.specs.Changes.{ChangeItem, Passing, through, with_mark}
-use Rattle.fw_verdict.specs.Given.{MasksTo, SendsTo, masked, sent_on, standing}
+use Rattle.fw_verdict.specs.Led.{MasksTo, SendsTo, masked, sent_on, standing}
 use Rattle.fw_verdict.proofs.Through.{ends_there, goes_there}
 
 pub sent_over : (found : Option Dnat) (now : Passing) (there : Bool) → is_some found ≡ there → (sent_on found now).over ≡ there

@@ -8,7 +8,7 @@ use Rattle.fw_addr.specs.declared.log.LogLine.{LogLine}
 use Rattle.fw_model.specs.declared.packet.Packet.{Packet}
 use Rattle.fw_order.specs.Borrowed.{lent}
 use Rattle.fw_verdict.specs.Changes.{ChangeItem}
-use Rattle.fw_verdict.specs.Given.{MasksTo, SendsTo}
+use Rattle.fw_verdict.specs.Led.{MasksTo, SendsTo}
 use Rattle.fw_verdict.proofs.Found.{masks_ends, masks_goes_on, sends_ends, sends_goes_on}
 
 module _ {A : Type 0} (of : A → List ChangeItem) (packet : Packet) where

@@ -3,6 +3,7 @@ mod Givers
 mod Placed
 mod Ports
 mod Prerouted
+pub mod Lines
 pub mod PolicyLists
 pub mod RichLists
 pub mod RichRules
@@ -10,6 +11,7 @@ pub mod Sequences
 pub mod Settings
 pub mod Through
 pub mod Turns
+pub mod Unmarked
 pub mod Unseen
 pub mod Walks
 pub mod Zones

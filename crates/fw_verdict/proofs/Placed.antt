@@ -17,7 +17,8 @@ use Rattle.fw_model.specs.declared.rich.Rich.{Rich}
 use Rattle.fw_model.specs.declared.rich.RichLog.{RichLog}
 use Rattle.fw_verdict.specs.Changes.{ChangeItem, Passing, and_on, changed, ends as is_end, going_on, new_mark, through, with_mark}
 use Rattle.fw_verdict.specs.Changes.Change.{log, mark, translate}
-use Rattle.fw_verdict.specs.Given.{MarksTo, SendsTo, forward_rule_items, log_given, mark_by_act, mark_given, sent_on, standing, target_given}
+use Rattle.fw_verdict.specs.Given.{log_given}
+use Rattle.fw_verdict.specs.Led.{MarksTo, SendsTo, forward_rule_items, mark_by_act, mark_given, sent_on, standing, target_given}
 use Rattle.fw_verdict.specs.Outside.{act_items, action_items, forward_items, log_items, outside_items, target_of}
 use Rattle.fw_verdict.specs.Rich.{passes}
 use Rattle.fw_verdict.specs.declared.outside.Place.TheVariants as place

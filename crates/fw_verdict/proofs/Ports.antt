@@ -12,7 +12,7 @@ use Rattle.fw_model.specs.declared.forward.Forward.{Forward}
 use Rattle.fw_model.specs.declared.packet.Packet.{Packet}
 use Rattle.fw_verdict.specs.Changes.{Passing, Reached, and_on, changed, going_on, through, with_mark}
 use Rattle.fw_verdict.specs.Changes.Change.{translate}
-use Rattle.fw_verdict.specs.Given.{SendsTo, sent_on, standing}
+use Rattle.fw_verdict.specs.Led.{SendsTo, sent_on, standing}
 use Rattle.fw_verdict.specs.Outside.{port_item, target_of}
 
 -- whether a port is about a packet

@@ -8,7 +8,7 @@ use Rattle.fw_model.specs.declared.config.Config.{Config}
 use Rattle.fw_model.specs.declared.outcome.Outcome.{Outcome}
 use Rattle.fw_model.specs.declared.packet.Packet.{Packet}
 use Rattle.fw_verdict.specs.Changes.{Passing, with_mark}
-use Rattle.fw_verdict.specs.Given.{IsUnmoved, moved_by, sent_on, standing}
+use Rattle.fw_verdict.specs.Led.{IsUnmoved, moved_by, sent_on, standing}
 use Rattle.fw_verdict.specs.Way.{behind_prerouting, marked, passed, translated}
 
 moved : (found : Option Dnat) (packet : Packet) (logs : List LogLine) → (sent_on found (standing packet None logs)).now ≡ standing (moved_by found packet) found logs

@@ -8,7 +8,7 @@ use Rattle.fw_model.specs.declared.policy.Policy.{Policy}
 use Rattle.fw_model.specs.declared.rules.Rules.{Rules}
 use Rattle.fw_model.specs.declared.zone.Zone.{Zone}
 use Rattle.fw_verdict.specs.Changes.{ChangeItem}
-use Rattle.fw_verdict.specs.Given.{policy_settings, settings_given, zone_settings}
+use Rattle.fw_verdict.specs.Led.{policy_settings, settings_given, zone_settings}
 use Rattle.fw_verdict.specs.Sides.{all_items, policies_beside, policy_items, side_items, zone_items}
 use Rattle.fw_verdict.specs.declared.policies.Stage.{Stage}
 use Rattle.fw_verdict.specs.declared.policies.Stage.TheVariants as stage

@@ -27,7 +27,7 @@ module _ (mark : ℕ) (packet : Packet) where
   same_type None = refl
   same_type (Some number) = refl
 
-  same_numbers : (numbers : Option IcmpNumbers) → hits_numbers numbers (with_mark mark packet) ≡ hits_numbers numbers packet
+  pub same_numbers : (numbers : Option IcmpNumbers) → hits_numbers numbers (with_mark mark packet) ≡ hits_numbers numbers packet
   same_numbers None = refl
   same_numbers (Some numbers) =
       ap (λ (one : Bool). (is_icmpv4 packet && one) || (is_icmpv6 packet && is_type numbers.v6 (with_mark mark packet))) (same_type numbers.v4)

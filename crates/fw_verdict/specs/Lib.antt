@@ -4,6 +4,7 @@ pub mod Ends
 pub mod FilterWay
 pub mod Given
 pub mod Items
+pub mod Led
 pub mod Outside
 pub mod Policies
 pub mod Rich

@@ -3,7 +3,7 @@ ghost use Rattle.std.specs.Prelude.{◌≡◌, IfOk};
 ghost use Rattle.std.specs.List.{flat_map};
 ghost use Rattle.fw_order.specs.Borrowed.{lent};
 ghost use Rattle.fw_verdict.specs.Changes.{new_mark};
-ghost use Rattle.fw_verdict.specs.Given.{MarksTo, mark_by_act, mark_given};
+ghost use Rattle.fw_verdict.specs.Led.{MarksTo, mark_by_act, mark_given};
 ghost use Rattle.fw_verdict.specs.Outside.{mark_items, outside_items};
 ghost use Rattle.fw_verdict.specs.Sides.{entering};
 ghost use Rattle.fw_verdict.specs.declared.outside.Place.TheVariants as place;

@@ -4,7 +4,7 @@ ghost use Rattle.std.specs.List.{flat_map};
 ghost use Rattle.fw_addr.specs.declared.log.LogLine.{LogLine};
 ghost use Rattle.fw_model.specs.declared.config.Config.{Config};
 ghost use Rattle.fw_order.specs.Borrowed.{lent};
-ghost use Rattle.fw_verdict.specs.Given.{MasksTo};
+ghost use Rattle.fw_verdict.specs.Led.{MasksTo};
 ghost use Rattle.fw_verdict.specs.Outside.{leaving_items, outside_items, placed_items, plain_items};
 ghost use Rattle.fw_verdict.specs.Sides.{leaving_by};
 ghost use Rattle.fw_verdict.specs.declared.outside.Place.TheVariants as place;

@@ -3,7 +3,7 @@ ghost use Rattle.std.specs.Prelude.{◌≡◌, ◌++◌, IfOk};
 ghost use Rattle.std.specs.List.{filter};
 ghost use Rattle.std.specs.Option.{option_copied};
 ghost use Rattle.fw_order.specs.Borrowed.{lent};
-ghost use Rattle.fw_verdict.specs.Given.{policy_settings, settings_given};
+ghost use Rattle.fw_verdict.specs.Led.{policy_settings, settings_given};
 ghost use Rattle.fw_verdict.specs.Sides.{is_beside, policies_beside};
 
 use crate::policies::{End, Stage, acts_at, names, stands_for};

@@ -8,7 +8,7 @@ ghost use Rattle.fw_model.specs.Ports.{port_matches};
 ghost use Rattle.fw_model.specs.declared.config.Config.{Config};
 ghost use Rattle.fw_order.specs.Borrowed.{lent};
 ghost use Rattle.fw_order.specs.Order.{by_priority};
-ghost use Rattle.fw_verdict.specs.Given.{SendsTo, forward_rule_items, target_given};
+ghost use Rattle.fw_verdict.specs.Led.{SendsTo, forward_rule_items, target_given};
 ghost use Rattle.fw_verdict.specs.Outside.{port_item, stands_at, target_of, translation_items};
 ghost use Rattle.fw_verdict.specs.Sides.{entering};
 ghost use Rattle.fw_verdict.specs.declared.sides.Side.TheVariants as side;

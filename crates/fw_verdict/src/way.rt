@@ -6,7 +6,7 @@ ghost use Rattle.fw_addr.specs.Subnets.{in_net};
 ghost use Rattle.fw_addr.specs.declared.dnat.Dnat.{Dnat};
 ghost use Rattle.fw_model.specs.declared.packet.Via.TheVariants as via;
 ghost use Rattle.fw_verdict.specs.Changes.{with_mark};
-ghost use Rattle.fw_verdict.specs.Given.{IsUnmoved, masked, moved_by, sent_on, standing};
+ghost use Rattle.fw_verdict.specs.Led.{IsUnmoved, masked, moved_by, sent_on, standing};
 ghost use Rattle.fw_verdict.specs.Way.{behind_prerouting, is_accept, is_new, leaves_by, marked, may_masquerade, panicked, passed, postrouted, route, routed_by, sends_to, translated, way};
 
 use crate::filter::filtered;

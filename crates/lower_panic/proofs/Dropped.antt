@@ -1,5 +1,5 @@
 -- In panic mode every packet is dropped by the ruleset, as it is by the settings.
-use Rattle.std.proofs.Common.{◌≡◌, ℕ, zero, suc, ◌≤◌, Bool, true, false, List, [], ◌∷◌, codes, Option, None, Some, refl, sym, ap, subst, if◌then◌else◌, arith}
+use Rattle.std.proofs.Common.{◌≡◌, ℕ, zero, suc, Bool, true, false, List, [], ◌∷◌, refl, sym, ap, subst, if◌then◌else◌, arith}
 use Rattle.std.specs.Str.{bytes_eq}
 use Rattle.fw_model.specs.declared.outcome.Verdict.TheVariants as verdict
 use Rattle.fw_model.specs.declared.packet.Origin.{Origin}
@@ -19,8 +19,8 @@ use Rattle.nf_chains.specs.Hooks.Meets.{refused}
 use Rattle.nf_chains.specs.Hooks.Passes.{stopped, through}
 use Rattle.nf_chains.specs.Moments.{Moment, first_moment, looking}
 use Rattle.nf_rules.specs.declared.chain.Chain.{Chain}
-use Rattle.nf_sound.specs.Names.{IsByName, chain_of}
-use Rattle.nf_sound.specs.Sound.{IsIn, IsShort, Path, SoundRules}
+use Rattle.nf_sound.specs.Names.{IsByName}
+use Rattle.nf_sound.specs.Sound.{IsIn, IsShort, SoundRules}
 use Rattle.nf_sound.specs.Sound.Path.{stays, link}
 use Rattle.nf_sound.specs.Targets.{rule_targets}
 

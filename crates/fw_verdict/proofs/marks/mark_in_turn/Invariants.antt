@@ -2,7 +2,7 @@ use Rattle.std.proofs.Common.{◌≡◌, None, drop}
 use Rattle.std.specs.List.{flat_map}
 use Rattle.fw_order.specs.Borrowed.{lent}
 use Rattle.fw_verdict.specs.Changes.{through, with_mark}
-use Rattle.fw_verdict.specs.Given.{standing}
+use Rattle.fw_verdict.specs.Led.{standing}
 use Rattle.fw_verdict.specs.Outside.{mark_items}
 use Rattle.fw_verdict.proofs.marks.mark_in_turn.Given as goal
 

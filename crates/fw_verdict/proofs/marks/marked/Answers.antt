@@ -6,7 +6,7 @@ use Rattle.fw_model.specs.declared.rules.Rules.{Rules}
 use Rattle.fw_model.specs.declared.zone.Zone.{Zone}
 use Rattle.fw_order.specs.Borrowed.{lent}
 use Rattle.fw_verdict.specs.Changes.{ChangeItem}
-use Rattle.fw_verdict.specs.Given.{MarksTo}
+use Rattle.fw_verdict.specs.Led.{MarksTo}
 use Rattle.fw_verdict.specs.Outside.{mark_items}
 use Rattle.fw_verdict.specs.Sides.{all_items}
 use Rattle.fw_verdict.specs.declared.sides.Side.TheVariants as side

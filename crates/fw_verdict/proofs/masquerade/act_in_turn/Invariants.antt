@@ -2,7 +2,7 @@ use Rattle.std.proofs.Common.{List, Bool, drop}
 use Rattle.std.specs.List.{flat_map}
 use Rattle.fw_addr.specs.declared.log.LogLine.{LogLine}
 use Rattle.fw_order.specs.Borrowed.{lent}
-use Rattle.fw_verdict.specs.Given.{MasksTo}
+use Rattle.fw_verdict.specs.Led.{MasksTo}
 use Rattle.fw_verdict.specs.Outside.{outside_items}
 use Rattle.fw_verdict.specs.declared.outside.Place.TheVariants.{Masquerades}
 use Rattle.fw_verdict.proofs.masquerade.act_in_turn.Given as goal

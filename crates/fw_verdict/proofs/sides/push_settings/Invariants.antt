@@ -1,6 +1,6 @@
 use Rattle.std.proofs.Common.{◌≡◌, ◌++◌, take}
 use Rattle.fw_order.specs.Borrowed.{lent}
-use Rattle.fw_verdict.specs.Given.{policy_settings}
+use Rattle.fw_verdict.specs.Led.{policy_settings}
 use Rattle.fw_verdict.proofs.sides.push_settings.Given as goal
 
 -- the settings of the policies that were looked at have come

@@ -1,5 +1,5 @@
 use Rattle.std.proofs.Common.{None, sym}
-use Rattle.fw_verdict.specs.Given.{forward_rule_items}
+use Rattle.fw_verdict.specs.Led.{forward_rule_items}
 use Rattle.fw_verdict.proofs.Givers.{sends_behind, sends_here, sends_nowhere}
 use Rattle.fw_verdict.proofs.translation.act_in_turn.Goals as goal
 

@@ -3,7 +3,7 @@ use Rattle.std.specs.List.{flat_map}
 use Rattle.fw_addr.specs.declared.dnat.Dnat.{Dnat}
 use Rattle.fw_addr.specs.declared.log.LogLine.{LogLine}
 use Rattle.fw_order.specs.Borrowed.{lent}
-use Rattle.fw_verdict.specs.Given.{SendsTo, forward_rule_items}
+use Rattle.fw_verdict.specs.Led.{SendsTo, forward_rule_items}
 use Rattle.fw_verdict.proofs.translation.act_in_turn.Given as goal
 
 -- an end from the rules that are left is an end from all

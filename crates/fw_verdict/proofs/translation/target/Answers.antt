@@ -7,7 +7,7 @@ use Rattle.fw_model.specs.declared.rules.Rules.{Rules}
 use Rattle.fw_model.specs.declared.zone.Zone.{Zone}
 use Rattle.fw_order.specs.Borrowed.{lent}
 use Rattle.fw_verdict.specs.Changes.{ChangeItem}
-use Rattle.fw_verdict.specs.Given.{SendsTo}
+use Rattle.fw_verdict.specs.Led.{SendsTo}
 use Rattle.fw_verdict.specs.Outside.{translation_items}
 use Rattle.fw_verdict.specs.Sides.{all_items}
 use Rattle.fw_verdict.specs.declared.sides.Side.TheVariants as side

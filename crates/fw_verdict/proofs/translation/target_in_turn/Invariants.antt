@@ -3,7 +3,7 @@ use Rattle.std.specs.List.{flat_map}
 use Rattle.fw_addr.specs.declared.dnat.Dnat.{Dnat}
 use Rattle.fw_addr.specs.declared.log.LogLine.{LogLine}
 use Rattle.fw_order.specs.Borrowed.{lent}
-use Rattle.fw_verdict.specs.Given.{SendsTo}
+use Rattle.fw_verdict.specs.Led.{SendsTo}
 use Rattle.fw_verdict.specs.Outside.{translation_items}
 use Rattle.fw_verdict.proofs.translation.target_in_turn.Given as goal
 

@@ -1,6 +1,6 @@
 use Rattle.std.proofs.Common.{◌∙◌, List, None, ap, sym}
 use Rattle.fw_addr.specs.declared.log.LogLine.{LogLine}
-use Rattle.fw_verdict.specs.Given.{standing}
+use Rattle.fw_verdict.specs.Led.{standing}
 use Rattle.fw_verdict.specs.Way.{marked}
 use Rattle.fw_verdict.proofs.Prerouted.{goes_unchanged}
 use Rattle.fw_verdict.proofs.way.passed.Goals as goal
