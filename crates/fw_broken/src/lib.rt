@@ -13,5 +13,5 @@ mod rule;
 mod sets;
 mod written;
 
-pub use broken::broken_rule;
+pub use broken::{broken_rule, find_broken_rule};
 pub use rule::Rule;

@@ -6,7 +6,7 @@ ghost use Rattle.serde_json.specs.View.{view};
 
 use crate::error::ConfigError;
 use fw_base::{Memory, Text};
-use fw_broken::broken_rule;
+use fw_broken::find_broken_rule;
 use fw_load::{Stop, Told};
 use fw_model::Config;
 use fw_words::after_key;
@@ -24,9 +24,10 @@ pub fn config_from_text(alloc: Global, text: &[u8]) -> Result<Config, ConfigErro
 {
     let value = json_of(alloc, text)?;
     match Config::read(alloc, &value) {
-        Ok(config) => match broken_rule(&config) {
-            None => Ok(config),
-            Some(rule) => Err(ConfigError::Rule(rule)),
+        Ok(config) => match find_broken_rule(alloc, &config) {
+            Ok(None) => Ok(config),
+            Ok(Some(rule)) => Err(ConfigError::Rule(rule)),
+            Err(Memory) => Err(ConfigError::Memory),
         },
         Err(Stop::Fault(way)) => Err(ConfigError::Field(path(alloc, way.as_str())?)),
         Err(Stop::Memory) => Err(ConfigError::Memory),

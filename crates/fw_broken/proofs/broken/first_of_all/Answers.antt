@@ -3,7 +3,7 @@ use Rattle.fw_broken.specs.Broken.{Holds, rules}
 use Rattle.fw_model.specs.declared.config.Config.{Config}
 use Rattle.fw_valid.specs.Each.{Each}
 use Rattle.fw_valid.specs.Valid.{IsValid}
-use Rattle.fw_broken.proofs.broken.broken_rule.Goals as goal
+use Rattle.fw_broken.proofs.broken.first_of_all.Goals as goal
 
 to_valid : (config : Config) → Each (Holds config) rules → IsValid config
 to_valid config kept = record {
