@@ -1,3 +1,7 @@
 mod Ends
 mod Known
+mod Parsed
 mod Rows
+mod Walking
+mod Walks
+mod Words

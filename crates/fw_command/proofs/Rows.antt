@@ -5,7 +5,8 @@ use Rattle.clap.specs.Walk.{Row, Text, at_row, first_of, has_row, more_values, r
 use Rattle.clap.specs.declared.parser.matches.ValueSource.TheVariants.{CommandLine}
 use Rattle.fw_command.proofs.Known.{the_rule}
 
-abbrev first_value : Row → Option Text
+-- the first value of a row
+abbrev pub first_value : Row → Option Text
 first_value row = slice_get row.values 0
 
 -- the row of an option
@@ -57,5 +58,16 @@ first_more name (other ∷ rows) row = go (bytes_eq other.id name) (first_more n
         → option_and_then first_value (if found then Some other else find (λ r. bytes_eq r.id name) (rows ++ row ∷ []))
         ≡ (if found || has_row name rows then option_and_then first_value (if found then Some other else find (λ r. bytes_eq r.id name) rows)
         else first_of name (row ∷ []))
+    go true rest = refl
+    go false rest = rest
+
+-- where a name has no row, it has no value
+pub no_value : (name : Text) (rows : List Row) → first_of name rows ≡ (if has_row name rows then first_of name rows else None)
+no_value name [] = refl
+no_value name (row ∷ rows) = go (bytes_eq row.id name) (no_value name rows)
+  where
+    go : (found : Bool) → first_of name rows ≡ (if has_row name rows then first_of name rows else None)
+        → option_and_then first_value (if found then Some row else find (λ r. bytes_eq r.id name) rows)
+        ≡ (if found || has_row name rows then option_and_then first_value (if found then Some row else find (λ r. bytes_eq r.id name) rows) else None)
     go true rest = refl
     go false rest = rest
