@@ -1,5 +1,5 @@
 -- Words of which no two are left.
-use Rattle.std.proofs.Common.{◌≡◌, ◌<◌, ℕ, List, [], ◌∷◌, map, length, Bool, true, false, is_some, refl, arith, suc}
+use Rattle.std.proofs.Common.{◌≡◌, ◌<◌, ℕ, List, [], ◌∷◌, map, length, false, is_some, refl, arith}
 use Rattle.std.specs.Prelude.{◌==◌}
 use Rattle.fw_command.specs.Options.{are_options, given}
 use Rattle.fw_command.specs.declared.verb.Verb.{Verb}

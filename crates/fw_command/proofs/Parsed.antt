@@ -1,16 +1,16 @@
 -- What `clap` makes of words that are options of a command: it takes them, and finds their values.
-use Rattle.std.proofs.Common.{◌≡◌, ◌∙◌, ◌&&◌, ◌∷◌, ◌++◌, ℕ, List, [], Bool, true, false, Option, None, Some, is_some, refl, ap, ap₂, sym, subst, true≢false, if◌then◌else◌, codes}
+use Rattle.std.proofs.Common.{◌≡◌, ◌∙◌, ◌&&◌, ◌∷◌, List, [], Bool, true, false, None, is_some, refl, ap, ap₂, sym, true≢false, if◌then◌else◌, codes}
 use Rattle.std.specs.List.{fold, list_all}
 use Rattle.clap.proofs.TakesLemmas.{leaf_takes}
 use Rattle.clap.proofs.WalkLemmas.{first_value-rows}
 use Rattle.clap.specs.Matches.{first_value, found_of}
-use Rattle.clap.specs.Simple.{App, HasMatchesOf, Shape, built, is_simple, matches_of}
-use Rattle.clap.specs.Takes.{default_passes, is_valid, level_passes, settle_passes, takes, walk_passes}
-use Rattle.clap.specs.Walk.{Held, Row, Rule, Text, Walk, finished, first_of, default_rows, has_row, reading_by, nothing_held, rows_of, settled_rows, walk, walk_from, with_default}
+use Rattle.clap.specs.Simple.{HasMatchesOf, Shape, built, is_simple, matches_of}
+use Rattle.clap.specs.Takes.{default_passes, is_valid, level_passes, settle_passes, takes}
+use Rattle.clap.specs.Walk.{Row, Rule, Text, finished, first_of, default_rows, has_row, reading_by, nothing_held, settled_rows, walk, with_default}
 use Rattle.clap.specs.declared.parser.matches.ArgMatches.{ArgMatches}
 use Rattle.fw_command.proofs.Known.{IsNamed}
 use Rattle.fw_command.proofs.Walks.{Reaches, walks}
-use Rattle.fw_command.proofs.Words.{AreKnown, both, known_name}
+use Rattle.fw_command.proofs.Words.{both, known_name}
 use Rattle.fw_command.specs.Forms.{form_of, gen_form, gen_forms, run_form, run_forms, serve_form, serve_forms}
 use Rattle.fw_command.specs.Options.{are_options, given}
 use Rattle.fw_command.specs.Parsers.{GivesValues, app}
@@ -25,14 +25,14 @@ shape_of verb = (built (app verb)).top
 known : (verb : Verb) (word : Text) → is_some (form_of verb word) ≡ true → IsNamed (shape_of verb).rules word
 unfolding run_form serve_form gen_form
 known verb.Run = known_name (shape_of verb.Run).rules run_forms (
-  ((codes "state", refl, record { dashes = refl; long = refl; by_long = refl; by_id = refl; same = refl }), ((codes "fail-commit", refl, record { dashes = refl; long = refl; by_long = refl; by_id = refl; same = refl }), ((codes "fail-save", refl, record { dashes = refl; long = refl; by_long = refl; by_id = refl; same = refl }), tt)))
-)
+    ((codes "state", refl, record { dashes = refl; long = refl; by_long = refl; by_id = refl; same = refl }), ((codes "fail-commit", refl, record { dashes = refl; long = refl; by_long = refl; by_id = refl; same = refl }), ((codes "fail-save", refl, record { dashes = refl; long = refl; by_long = refl; by_id = refl; same = refl }), tt)))
+    )
 known verb.Serve = known_name (shape_of verb.Serve).rules serve_forms (
-  ((codes "socket", refl, record { dashes = refl; long = refl; by_long = refl; by_id = refl; same = refl }), ((codes "workers", refl, record { dashes = refl; long = refl; by_long = refl; by_id = refl; same = refl }), ((codes "sessions", refl, record { dashes = refl; long = refl; by_long = refl; by_id = refl; same = refl }), ((codes "state", refl, record { dashes = refl; long = refl; by_long = refl; by_id = refl; same = refl }), tt))))
-)
+    ((codes "socket", refl, record { dashes = refl; long = refl; by_long = refl; by_id = refl; same = refl }), ((codes "workers", refl, record { dashes = refl; long = refl; by_long = refl; by_id = refl; same = refl }), ((codes "sessions", refl, record { dashes = refl; long = refl; by_long = refl; by_id = refl; same = refl }), ((codes "state", refl, record { dashes = refl; long = refl; by_long = refl; by_id = refl; same = refl }), tt))))
+    )
 known verb.Gen = known_name (shape_of verb.Gen).rules gen_forms (
-  ((codes "seed", refl, record { dashes = refl; long = refl; by_long = refl; by_id = refl; same = refl }), ((codes "lines", refl, record { dashes = refl; long = refl; by_long = refl; by_id = refl; same = refl }), tt))
-)
+    ((codes "seed", refl, record { dashes = refl; long = refl; by_long = refl; by_id = refl; same = refl }), ((codes "lines", refl, record { dashes = refl; long = refl; by_long = refl; by_id = refl; same = refl }), tt))
+    )
 
 -- where a walk over words that are options of the command ends
 reached : (verb : Verb) (words : List Text) → are_options verb words ≡ true → Reaches (shape_of verb) words [] None

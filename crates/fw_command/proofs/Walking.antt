@@ -1,11 +1,9 @@
 -- How `clap` walks over options that it knows, two words at a time.
-use Rattle.std.proofs.Common.{◌≡◌, ◌∙◌, ◌==◌, ◌&&◌, ◌||◌, ◌∷◌, ◌++◌, ℕ, List, [], Bool, true, false, Option, None, Some, refl, ap, sym, if◌then◌else◌, option_and_then}
-use Rattle.std.specs.Str.{bytes_eq}
-use Rattle.clap.specs.Lexer.{long_of, long_of_rest, short_of, short_of_rest, strip_byte}
+use Rattle.std.proofs.Common.{◌≡◌, ◌==◌, ◌∷◌, ℕ, List, [], true, false, Option, None, Some, refl}
 use Rattle.clap.specs.Simple.{Shape}
 use Rattle.clap.specs.Takes.{settle_passes, turn_passes}
-use Rattle.clap.specs.Walk.{Held, Row, Rule, Step, Text, Walk, idle, option, trailing, after_flag, after_step, long_met, long_or_other, option_word, settled_rows, short_or_plain, walked}
-use Rattle.fw_command.proofs.Known.{IsKnown, the_rule}
+use Rattle.clap.specs.Walk.{Held, Row, Rule, Text, Walk, idle, option, settled_rows, walked}
+use Rattle.fw_command.proofs.Known.{IsKnown}
 
 -- what is held between two options: the rows so far, and the option before, whose row is still to come
 abbrev pub held : List Row → Option (Text × List Text) → Held

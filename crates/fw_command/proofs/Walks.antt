@@ -5,10 +5,10 @@ use Rattle.std.specs.Str.{bytes_eq}
 use Rattle.std.proofs.lemmas.Slice.Eq.{bytes_eq-Decides}
 use Rattle.clap.specs.Simple.{Shape}
 use Rattle.clap.specs.Takes.{settle_passes, turn_passes, walk_passes}
-use Rattle.clap.specs.Walk.{Row, Rule, Text, Walk, first_of, has_row, settled_rows, walked}
-use Rattle.fw_command.proofs.Known.{IsKnown, IsNamed, the_rule}
+use Rattle.clap.specs.Walk.{Row, Rule, Text, first_of, has_row, settled_rows, walked}
+use Rattle.fw_command.proofs.Known.{IsKnown, IsNamed}
 use Rattle.fw_command.proofs.Rows.{first_more, first_value, has_more, new_row, no_value, used_new}
-use Rattle.fw_command.proofs.Walking.{close_passes, closed, held, open_passes, opened, standing, waiting_for}
+use Rattle.fw_command.proofs.Walking.{close_passes, closed, held, open_passes, opened, standing}
 use Rattle.fw_command.proofs.Words.{IsPlain, first_option, option_parts}
 use Rattle.fw_command.specs.Forms.{form_of}
 use Rattle.fw_command.specs.Options.{are_options, given}

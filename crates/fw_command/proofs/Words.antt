@@ -1,5 +1,5 @@
 -- Words that are options of a command, one option after another.
-use Rattle.std.proofs.Common.{◌≡◌, ◌∙◌, ◌==◌, ◌&&◌, ◌∷◌, not, ℕ, List, [], Bool, true, false, Option, None, Some, is_some, refl, ap, sym, subst, true≢false, if◌then◌else◌}
+use Rattle.std.proofs.Common.{◌≡◌, ◌==◌, ◌&&◌, ◌∷◌, not, ℕ, List, [], Bool, true, false, Option, None, Some, is_some, refl, sym, subst, true≢false, if◌then◌else◌}
 use Rattle.std.proofs.lemmas.Slice.Eq.{bytes_eq-Decides}
 use Rattle.std.specs.Option.{option_map_or}
 use Rattle.std.specs.Str.{bytes_eq}

@@ -1,9 +1,9 @@
 -- The command that words ask for (this project's own).
-use Rattle.std.specs.Prelude.{ℕ, ◌-◌, ◌^◌, if◌then◌else◌, codes, List, [], ◌∷◌, Option, None, Some}
+use Rattle.std.specs.Prelude.{ℕ, ◌-◌, ◌^◌, ◌&&◌, if◌then◌else◌, codes, List, [], ◌∷◌, Option, None, Some}
 use Rattle.std.specs.Str.{bytes_eq}
 use Rattle.fw_text.specs.Steps.{◌>>=◌}
 use Rattle.fw_command.specs.Numbers.{number_given, places_given}
-use Rattle.fw_command.specs.Options.{are_options, given}
+use Rattle.fw_command.specs.Options.{are_options, given, is_complete}
 use Rattle.fw_command.specs.declared.command.Command.{Command}
 use Rattle.fw_command.specs.declared.command.Command.TheVariants as command
 use Rattle.fw_command.specs.declared.verb.Verb.{Verb}
@@ -35,7 +35,7 @@ asked verb.Serve words = serve_of words
 asked verb.Gen words = gen_of words
 
 unfoldable pub options_of : Verb → (words : List (List ℕ)) → Option Command
-options_of verb words = if are_options verb words then asked verb words else None
+options_of verb words = if are_options verb words && is_complete verb words then asked verb words else None
 
 -- nothing follows `help`
 abbrev pub help_of : (words : List (List ℕ)) → Option Command

@@ -4,6 +4,7 @@ use Rattle.std.specs.Option.{option_map_or}
 use Rattle.std.specs.Str.{bytes_eq}
 use Rattle.fw_command.specs.Forms.{fits, form_of, is_plain}
 use Rattle.fw_command.specs.declared.verb.Verb.{Verb}
+use Rattle.fw_command.specs.declared.verb.Verb.TheVariants as verb
 
 -- the value of the first option of this name
 unfoldable pub given : (name : List ℕ) (words : List (List ℕ)) → Option (List ℕ)
@@ -24,3 +25,9 @@ unfoldable pub are_options : Verb → (words : List (List ℕ)) → Bool
 are_options verb [] = true
 are_options verb (name ∷ []) = false
 are_options verb (name ∷ value ∷ words) = is_option verb name value && (not (is_some (given name words)) && are_options verb words)
+
+-- whether the options that a command asks for are given
+abbrev pub is_complete : Verb → (words : List (List ℕ)) → Bool
+is_complete verb.Run words = true
+is_complete verb.Serve words = is_some (given (codes "--socket") words) && (is_some (given (codes "--workers") words) && is_some (given (codes "--sessions") words))
+is_complete verb.Gen words = is_some (given (codes "--seed") words) && is_some (given (codes "--lines") words)

@@ -1,7 +1,7 @@
 //! The options of a command: two words each, in any order, each at most once.
 ghost use Rattle.std.specs.Prelude.{◌≡◌, is_some, map};
 ghost use Rattle.std.specs.String.{string_bytes};
-ghost use Rattle.fw_command.specs.Options.{are_options, given, is_option};
+ghost use Rattle.fw_command.specs.Options.{are_options, given, is_complete, is_option};
 
 use super::form::{fits, form_of, is_plain};
 use super::verb::Verb;
@@ -19,6 +19,21 @@ pub fn are_options(verb: Verb, words: &[String]) -> bool
         left = behind;
     }
     left.is_empty()
+}
+
+/// Whether the options are given that a command asks for.
+pub fn is_complete(verb: Verb, words: &[String]) -> bool
+    ensures { result ≡ is_complete verb (map string_bytes words.now) }
+{
+    match verb {
+        Verb::Run => true,
+        Verb::Serve => {
+            is_given("--socket", words)
+                && is_given("--workers", words)
+                && is_given("--sessions", words)
+        }
+        Verb::Gen => is_given("--seed", words) && is_given("--lines", words),
+    }
 }
 
 /// Whether a command has an option of this name that takes this value.

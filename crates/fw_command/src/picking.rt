@@ -1,12 +1,12 @@
 //! The command that words ask for.
 ghost use Rattle.std.specs.Prelude.{◌≡◌, map, true};
 ghost use Rattle.std.specs.String.{string_bytes};
-ghost use Rattle.fw_command.specs.Commands.{asked, command_of, gen_of, help_of, options_of, run_of, serve_of};
+ghost use Rattle.fw_command.specs.Commands.{command_of, gen_of, help_of, options_of, run_of, serve_of};
 ghost use Rattle.fw_command.specs.Options.{are_options};
 ghost use Rattle.fw_command.specs.Picking.{Picks};
 
 use super::found::found_in;
-use super::options::are_options;
+use super::options::{are_options, is_complete};
 use super::values::{number_given, places_given, text_given, text_if_given};
 use super::verb::Verb;
 use super::{Command, PickError};
@@ -50,7 +50,7 @@ fn pick_help(options: &[String]) -> Result<Command, PickError>
 fn pick_options(alloc: Global, verb: Verb, words: &[String]) -> Result<Command, PickError>
     ensures { Picks result (options_of verb (map string_bytes words.now)) }
 {
-    if !are_options(verb, words) {
+    if !are_options(verb, words) || !is_complete(verb, words) {
         return Err(PickError::Usage);
     }
     match verb {

@@ -1,5 +1,4 @@
 //! Bytes in hexadecimal digits.
-ghost use Rattle.std.specs.Prelude.{◌≡◌};
 ghost use Rattle.fw_words.specs.Reading.{Says};
 ghost use Rattle.fw_script_line.specs.Bytes.{bytes_of};
 

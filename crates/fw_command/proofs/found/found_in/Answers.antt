@@ -1,4 +1,4 @@
-use Rattle.std.proofs.Common.{rules, ◌≡◌, ◌∙◌, map, ap, subst, sym}
+use Rattle.std.proofs.Common.{◌∙◌, map, ap, subst}
 use Rattle.std.specs.String.{string_bytes}
 use Rattle.clap.specs.Simple.{App, HasMatchesOf}
 use Rattle.clap.specs.Takes.{takes}
