@@ -1,3 +1,4 @@
+mod Checked
 mod Ends
 mod Known
 mod Parsed

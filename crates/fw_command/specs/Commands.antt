@@ -9,12 +9,14 @@ use Rattle.fw_command.specs.declared.command.Command.TheVariants as command
 use Rattle.fw_command.specs.declared.verb.Verb.{Verb}
 use Rattle.fw_command.specs.declared.verb.Verb.TheVariants as verb
 
+-- `run`: the places at which commits and saves are to fail, and the state's path
 unfoldable pub run_of : (words : List (List ℕ)) → Option Command
 run_of words = do
   fail_commit ← places_given (given (codes "--fail-commit") words)
   fail_save ← places_given (given (codes "--fail-save") words)
   Some (command.Run (given (codes "--state") words) fail_commit fail_save)
 
+-- `serve`: its forms keep workers within 64 and sessions within 10,000,000
 unfoldable pub serve_of : (words : List (List ℕ)) → Option Command
 serve_of words = do
   socket ← given (codes "--socket") words
@@ -22,6 +24,7 @@ serve_of words = do
   sessions ← number_given (2 ^ 64 - 1) (given (codes "--sessions") words)
   Some (command.Serve socket workers sessions (given (codes "--state") words))
 
+-- `gen`: its forms keep lines within 100,000
 unfoldable pub gen_of : (words : List (List ℕ)) → Option Command
 gen_of words = do
   seed ← number_given (2 ^ 64 - 1) (given (codes "--seed") words)
@@ -34,6 +37,7 @@ asked verb.Run words = run_of words
 asked verb.Serve words = serve_of words
 asked verb.Gen words = gen_of words
 
+-- what words ask for that are options of a command, with those that it asks for among them
 unfoldable pub options_of : Verb → (words : List (List ℕ)) → Option Command
 options_of verb words = if are_options verb words && is_complete verb words then asked verb words else None
 

@@ -8,6 +8,7 @@ mod command;
 mod error;
 mod form;
 mod found;
+mod law;
 mod options;
 mod parser;
 mod picking;
@@ -17,4 +18,5 @@ mod verb;
 
 pub use command::Command;
 pub use error::PickError;
+pub use law::checked_options_ask;
 pub use picking::pick;
