@@ -1,0 +1,8 @@
+mod Checked
+mod Ends
+mod Known
+mod Parsed
+mod Rows
+mod Walking
+mod Walks
+mod Words
