@@ -6,3 +6,4 @@ mod sessions;
 mod telling;
 
 pub use journal::Journal;
+pub use telling::push_copies;

@@ -7,7 +7,9 @@ use fw_calls::Signal;
 use std::alloc::Global;
 
 /// Appends copies of signals.
-fn push_copies(alloc: Global, signals: &[Signal], out: &mut Seq<Signal>) -> Result<(), Memory>
+///
+/// Refuses for want of memory alone.
+pub fn push_copies(alloc: Global, signals: &[Signal], out: &mut Seq<Signal>) -> Result<(), Memory>
     ensures { OnOk result (out.new ≡ out.old ++ signals.now) }
 {
     for signal in signals {
