@@ -16,7 +16,7 @@ use fw_calls::{Applied, Entry, Event, Reply, Signal, weight};
 use fw_journal::Journal;
 use fw_machine::step;
 use fw_model::Config;
-use fw_settings::{Proposal, Settings, settle, start};
+use fw_settings::{Proposal, Settings, first_settings_are_valid, settle, start};
 use std::alloc::Global;
 use std::marker::Model;
 
@@ -61,6 +61,7 @@ impl History {
         ensures entries { IfOk result (λ history. history.journal.entries ≡ []) }
         ensures limit { IfOk result (λ history. history.limit ≡ limit) }
     {
+        first_settings_are_valid();
         let settings = start(alloc, first.copy(alloc)?)?;
         Ok(History {
             first,
@@ -126,6 +127,7 @@ impl History {
         ensures { (from : ℕ) → from ≤ length self.old.journal.entries → IsPlanned self.old event from plan.proposal plan.told plan.earlier
             → IsEntered self.old self.new event from save commit result.place result.signals result.reply }
     {
+        self.journal.laws();
         let place = self.journal.len();
         let Plan {
             proposal,
@@ -180,7 +182,7 @@ fn plan_behind(
     earlier: Seq<Signal>,
     left: u64,
 ) -> Result<Plan, Unplanned>
-    requires { settings.entry.now.now ≤ last_time }
+    requires { settings.now.now ≤ last_time }
     ensures planned { IfOk result (λ plan. IsPlannedBehind settings.entry.now event.now earlier left plan.proposal plan.told plan.earlier) }
     ensures full { IfErr result (λ why. IsFullOf (weight event.now (step settings.entry.now event.now).signals) left why) }
     ensures free { IsFree settings.entry.now event.now → weight event.now (step settings.entry.now event.now).signals ≤ left → IsOk result }
