@@ -4,7 +4,7 @@ ghost use Rattle.fw_calls.specs.Weight.{weight};
 ghost use Rattle.fw_history.specs.History.{AreResults, IsEntered, IsFull, IsFullOf, IsPlanned, IsPlannedBehind, IsSame, highest_limit, left, needed, told_where};
 ghost use Rattle.fw_history.specs.declared.plan.Unplanned.TheVariants as unplanned;
 ghost use Rattle.fw_journal.specs.Journal.{weights};
-ghost use Rattle.fw_machine.specs.Machine.{IsFree, step};
+ghost use Rattle.fw_machine.specs.Machine.{IsFree, IsQuiet, step};
 ghost use Rattle.fw_replay.specs.Legal.{MayCome, session_of};
 ghost use Rattle.fw_settings.specs.Starting.{started};
 ghost use Rattle.fw_settings.specs.Valid.{AreValid, last_time};
@@ -106,6 +106,7 @@ impl History {
         ensures same { IsSame self.old self.new }
         ensures planned { IfOk result (λ plan. IsPlanned self.old event.now from plan.proposal plan.told plan.earlier) }
         ensures room { OnOk result (0 < self.new.journal.spare) }
+        ensures quiet { IfOk result (λ plan. IsFree self.old.settings event.now → IsQuiet plan.proposal) }
         ensures full { IfErr result (λ why. IsFull self.old event.now why) }
         ensures free { IsFree self.old.settings event.now → 0 < self.old.journal.spare → from ≡ length self.old.journal.entries
             → needed self.old event.now ≤ left self.old → IsOk result }
@@ -184,6 +185,7 @@ fn plan_behind(
 ) -> Result<Plan, Unplanned>
     requires { settings.now.now ≤ last_time }
     ensures planned { IfOk result (λ plan. IsPlannedBehind settings.entry.now event.now earlier left plan.proposal plan.told plan.earlier) }
+    ensures quiet { IfOk result (λ plan. IsFree settings.entry.now event.now → IsQuiet plan.proposal) }
     ensures full { IfErr result (λ why. IsFullOf (weight event.now (step settings.entry.now event.now).signals) left why) }
     ensures free { IsFree settings.entry.now event.now → weight event.now (step settings.entry.now event.now).signals ≤ left → IsOk result }
 {

@@ -1,0 +1,5 @@
+//! The daemon in one thread: its settings, its journal, what it installs and what it keeps.
+#![tactic(auto)]
+
+mod installing;
+mod saving;
