@@ -1,1 +1,3 @@
+pub mod Daemons
+pub mod Opening
 pub mod Outside

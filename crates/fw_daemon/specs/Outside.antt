@@ -1,5 +1,5 @@
 -- What an event asks of the keeper of the permanent settings and of the kernel, and what they make of it (this project's own).
-use Rattle.std.specs.Prelude.{◌≡◌, ◌↔◌, ◌⊎◌, ℕ, ◌+◌, List, length, Bool, true, false, Option, None, Some, IfSome, IsUtf8, ⊥}
+use Rattle.std.specs.Prelude.{◌≡◌, ◌≢◌, ◌↔◌, ◌⊎◌, ℕ, ◌+◌, List, length, Bool, true, false, Option, None, Some, IfSome}
 use Rattle.std.specs.List.{Contains}
 use Rattle.std.specs.Option.{option_map}
 use Rattle.fw_base.specs.Causes.{Rose}
@@ -13,13 +13,15 @@ use Rattle.fw_service.specs.Configs.{built_in_config}
 use Rattle.fw_store.specs.Objects.{config_data}
 use Rattle.nf_goal.specs.Compiles.{Compiles}
 use Rattle.nf_kernel.specs.Installed.{Kernel, with_staged}
+use Rattle.nf_kernel.specs.declared.kernel.Ready.{Ready}
 use Rattle.nf_rules.specs.declared.ruleset.Ruleset.{Ruleset}
 use Rattle.serde_json.specs.Read.{read}
+use Rattle.serde_json.specs.Written.{compact_text}
 
--- A text that was written of permanent settings.
+-- A text that was written of permanent settings: the compact text of their JSON value, which is read as that value.
 pub record IsWritten (text : List ℕ) (config : Config) : Type 0 where
-  pub utf8 : IsUtf8 text
-  pub value : read text ≡ Some (config_data config)
+  pub text_is : text ≡ compact_text (config_data config)
+  pub read_back : read text ≡ Some (config_data config)
 
 -- A text says the permanent settings: it reads as them, or it was written of them.
 abbrev pub Says : List ℕ → Config → Type 0
@@ -43,43 +45,54 @@ tries applied.Skipped = 0
 tries applied.Done = 1
 tries applied.Failed = 1
 
--- What a save changes of what is seen of a keeper. None is asked for, or one of this text.
-pub record IsSaved (text : Option (List ℕ)) (before now : Kept) (save : Applied) : Type 0 where
-  -- it is skipped exactly where there is none
-  pub skipped : (save ≡ applied.Skipped) ↔ (text ≡ None)
+-- What a save changes of what is seen of a keeper, but for what it holds.
+pub record IsKeptAs (before now : Kept) (save : Applied) : Type 0 where
+  -- it is counted where it was tried
   pub calls : now.calls ≡ before.calls + tries save
   pub failing : now.failing ≡ before.failing
-  -- a failed one comes only where the count of faults rose; no other changes it
+  -- it failed only where the count of faults rose, and else that stays
   pub blamed : save ≡ applied.Failed → Rose before.faults now.faults
-  pub blameless : (save ≡ applied.Skipped) ⊎ (save ≡ applied.Done) → now.faults ≡ before.faults
+  pub blameless : save ≢ applied.Failed → now.faults ≡ before.faults
   -- where the calls that fail are told, it fails exactly at these
-  pub told : (save ≡ applied.Done) ⊎ (save ≡ applied.Failed) → IfSome before.failing (λ numbers. (save ≡ applied.Failed) ↔ Contains numbers now.calls)
-  -- what is held afterwards
-  pub kept : (save ≡ applied.Skipped) ⊎ (save ≡ applied.Failed) → now.held ≡ before.held
+  pub told : save ≢ applied.Skipped → IfSome before.failing (λ numbers. (save ≡ applied.Failed) ↔ Contains numbers now.calls)
+  -- one that failed or was skipped leaves what was held
+  pub left : save ≢ applied.Done → now.held ≡ before.held
+
+-- Where a text is asked to be saved, or none.
+pub record IsSaved (text : Option (List ℕ)) (before now : Kept) (save : Applied) : Type 0 where
+  pub kept : IsKeptAs before now save
+  -- it is skipped exactly where there is none
+  pub skipped : (save ≡ applied.Skipped) ↔ (text ≡ None)
+  -- a text that was saved is held
   pub held : (written : List ℕ) → text ≡ Some written → save ≡ applied.Done → now.held ≡ option_map (λ was. Some written) before.held
 
 -- What is staged for a commit that is needed: a ruleset that the compiler makes of the settings and that compiles them.
 pub record IsReady (makes : Runtime → Ruleset → Type 0) (runtime : Runtime) (before now : Kernel) : Type 0 where
-  pub rules : Ruleset
-  pub commands : ℕ
-  pub made : makes runtime rules
-  pub compiles : Compiles rules runtime
-  pub is : now ≡ with_staged (Some (record { after = rules; commands = commands })) before
+  pub ready : Ready
+  pub made : makes runtime ready.after
+  pub compiles : Compiles ready.after runtime
+  pub is : now ≡ with_staged (Some ready) before
 
 -- Where none is needed nothing is staged.
 abbrev pub IsReadyFor : (needed : Bool) → (makes : Runtime → Ruleset → Type 0) → Runtime → (before now : Kernel) → Type 0
 IsReadyFor true makes runtime before now = IsReady makes runtime before now
 IsReadyFor false makes runtime before now = now ≡ before
 
--- What a commit changes of what is seen of a kernel in which nothing was staged before.
-pub record IsCommittedAs (makes : Runtime → Ruleset → Type 0) (runtime : Runtime) (before now : Kernel) (commit : Applied) : Type 0 where
+-- What a commit changes of what is seen of a kernel in which nothing was staged.
+pub record IsInstalledAs (before now : Kernel) (commit : Applied) : Type 0 where
+  -- it is counted where it was tried
   pub asked : now.asked ≡ before.asked + tries commit
   pub failing : now.failing ≡ before.failing
   pub staged : now.staged ≡ None
+  -- it failed only where the count of faults rose, and else that stays
   pub blamed : commit ≡ applied.Failed → Rose before.faults now.faults
-  pub blameless : (commit ≡ applied.Skipped) ⊎ (commit ≡ applied.Done) → now.faults ≡ before.faults
-  pub told : (commit ≡ applied.Done) ⊎ (commit ≡ applied.Failed) → IfSome before.failing (λ numbers. (commit ≡ applied.Failed) ↔ Contains numbers now.asked)
-  -- the ruleset stays, or is the one of the settings
-  pub kept : (commit ≡ applied.Skipped) ⊎ (commit ≡ applied.Failed) → now.installed ≡ before.installed
-  pub made : commit ≡ applied.Done → makes runtime now.installed
-  pub compiles : commit ≡ applied.Done → Compiles now.installed runtime
+  pub blameless : commit ≢ applied.Failed → now.faults ≡ before.faults
+  -- where the commits that fail are told, it fails exactly at these
+  pub told : commit ≢ applied.Skipped → IfSome before.failing (λ numbers. (commit ≡ applied.Failed) ↔ Contains numbers now.asked)
+  -- one that failed or was skipped leaves what was installed
+  pub left : commit ≢ applied.Done → now.installed ≡ before.installed
+
+-- Where a ruleset was ready for it: it is installed once it is done.
+pub record IsCommittedTo (ruleset_ready : Ruleset) (before now : Kernel) (commit : Applied) : Type 0 where
+  pub installed : IsInstalledAs before now commit
+  pub done : commit ≡ applied.Done → now.installed ≡ ruleset_ready

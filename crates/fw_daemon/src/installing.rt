@@ -1,11 +1,10 @@
 //! The ruleset of the settings in force, and what becomes of it.
-ghost use Rattle.std.specs.Prelude.{◌≡◌, ◌↔◌, ◌⊎◌, ◌<◌, ◌^◌, true, false, None, OnOk, OnErr, IsSome};
+ghost use Rattle.std.specs.Prelude.{◌≡◌, ◌≢◌, ◌↔◌, ◌⊎◌, ◌<◌, ◌^◌, true, false, None, Some, OnOk, OnErr, IsSome, MatchBool};
 ghost use Rattle.fw_calls.specs.declared.applied.Applied.TheVariants as applied;
-ghost use Rattle.fw_daemon.specs.Outside.{IsCommittedAs, IsReady, IsReadyFor};
-ghost use Rattle.fw_model.specs.declared.runtime.Runtime.{Runtime as RuntimeValue};
+ghost use Rattle.fw_daemon.specs.Outside.{IsCommittedTo, IsReady, IsReadyFor};
 ghost use Rattle.fw_valid.specs.Valid.{IsValid};
-ghost use Rattle.nf_kernel.specs.Installed.{Kernel};
-ghost use Rattle.nf_rules.specs.declared.ruleset.Ruleset.{Ruleset};
+ghost use Rattle.nf_kernel.specs.Installed.{Kernel, with_staged};
+ghost use Rattle.nf_kernel.specs.declared.kernel.Ready.{Ready as ReadyValue};
 
 use fw_base::Memory;
 use fw_calls::Applied;
@@ -46,7 +45,8 @@ pub fn stage_for<B: Backend, C: Compiler>(alloc: Global, needed: bool, backend: 
 fn commit_staged<B: Backend>(backend: &mut B) -> Applied
     requires staged { IsSome (B.kernel backend.old).staged }
     requires asked { (B.kernel backend.old).asked < 2 ^ 62 }
-    ensures { (makes : RuntimeValue → Ruleset → Type 0) (runtime : RuntimeValue) (before : Kernel) → IsReady makes runtime before (B.kernel backend.old) → IsCommittedAs makes runtime before (B.kernel backend.new) result }
+    ensures tried { result ≢ applied.Skipped }
+    ensures committed { (ready : ReadyValue) (before : Kernel) → B.kernel backend.old ≡ with_staged (Some ready) before → IsCommittedTo ready.after before (B.kernel backend.new) result }
 {
     match backend.commit() {
         Ok(()) => Applied::Done,
@@ -58,17 +58,26 @@ fn commit_staged<B: Backend>(backend: &mut B) -> Applied
 pub fn commit<B: Backend>(backend: &mut B, needed: bool, save: Applied) -> Applied
     requires staged { needed ≡ true → IsSome (B.kernel backend.old).staged }
     requires asked { (B.kernel backend.old).asked < 2 ^ 62 }
-    ensures committed { (makes : RuntimeValue → Ruleset → Type 0) (runtime : RuntimeValue) (before : Kernel) → before.staged ≡ None → IsReadyFor needed makes runtime before (B.kernel backend.old) → IsCommittedAs makes runtime before (B.kernel backend.new) result }
+    ensures committed { needed ≡ true → (ready : ReadyValue) (before : Kernel) → before.staged ≡ None → B.kernel backend.old ≡ with_staged (Some ready) before
+        → IsCommittedTo ready.after before (B.kernel backend.new) result }
+    ensures idle { needed ≡ false → B.kernel backend.new ≡ B.kernel backend.old }
     ensures skipped { (result ≡ applied.Skipped) ↔ ((needed ≡ false) ⊎ (save ≡ applied.Failed)) }
 {
     if !needed {
         return Applied::Skipped;
     }
+    if has_failed(save) {
+        backend.unstage();
+        return Applied::Skipped;
+    }
+    commit_staged(backend)
+}
+
+fn has_failed(save: Applied) -> bool
+    ensures { MatchBool result (save ≡ applied.Failed) (save ≢ applied.Failed) }
+{
     match save {
-        Applied::Failed => {
-            backend.unstage();
-            Applied::Skipped
-        }
-        Applied::Skipped | Applied::Done => commit_staged(backend),
+        Applied::Failed => true,
+        Applied::Skipped | Applied::Done => false,
     }
 }
