@@ -1,7 +1,7 @@
 //! The history.
 ghost use Rattle.std.specs.Prelude.{◌≡◌, ℕ, ◌≤◌, ◌<◌, ◌+◌, [], ◌∷◌, ◌++◌, length, drop, IsOk, IfOk, IfErr, OnOk, OnErr};
 ghost use Rattle.fw_calls.specs.Weight.{weight};
-ghost use Rattle.fw_history.specs.History.{AreResults, IsEntered, IsFull, IsFullOf, IsPlanned, IsPlannedBehind, IsSame, highest_limit, left, needed, told_where};
+ghost use Rattle.fw_history.specs.History.{AreResults, IsEntered, IsFull, IsHistory, IsFullOf, IsPlanned, IsPlannedBehind, IsSame, highest_limit, left, needed, told_where};
 ghost use Rattle.fw_history.specs.declared.plan.Unplanned.TheVariants as unplanned;
 ghost use Rattle.fw_journal.specs.Journal.{weights};
 ghost use Rattle.fw_machine.specs.Machine.{IsFree, IsQuiet, step};
@@ -69,6 +69,13 @@ impl History {
             journal: Journal::new(alloc),
             limit,
         })
+    }
+
+    /// What holds of every history.
+    pub fn laws(&self)
+        ensures { IsHistory self.now }
+    {
+        let _ = &self.first;
     }
 
     /// The settings that there are.
