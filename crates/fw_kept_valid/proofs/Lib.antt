@@ -1,2 +1,5 @@
-pub mod Inverted
+pub mod Bindings
 pub mod Members
+pub mod Settings
+pub mod Steps
+pub mod Taken

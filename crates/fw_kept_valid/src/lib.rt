@@ -3,4 +3,7 @@
 
 mod laws;
 
-pub use laws::inversion_keeps_valid;
+pub use laws::{
+    binding_keeps_valid, inversion_keeps_valid, setting_keeps_valid, verbs_are_timed,
+    zone_of_keeps_valid, zone_settings_keeps_valid,
+};

@@ -17,7 +17,7 @@ use Rattle.fw_valid_edits.specs.Fit.{AreFit, IsFitZone, with_zones}
 use Rattle.fw_zone.specs.Bindings.{interfaces_of, sources_of, with_interfaces, with_sources}
 use Rattle.fw_zone.specs.Lists.{IsIn}
 
-abbrev name_of : Zone → List ℕ
+abbrev pub name_of : Zone → List ℕ
 name_of zone = zone.name
 
 abbrev rules_of : Zone → Rules
@@ -71,13 +71,13 @@ module _ (P : Rules → Type 0) (config : Config) where
       each_joined P (map rules_of zones) of_policies (each_mapped rules_of P zones new) (each_behind P (map rules_of config.zones) of_policies each)
 
 -- all zones of a valid configuration fit, but for their entries
-record IsSound (config : Config) (zone : Zone) : Type 0 where
-  rules : AreFit config zone.rules
-  sets : SourcesKnown config zone
-  interfaces : IsWithoutRepeats zone.interfaces
-  sources : IsWithoutRepeats zone.sources
+pub record IsSound (config : Config) (zone : Zone) : Type 0 where
+  pub rules : AreFit config zone.rules
+  pub sets : SourcesKnown config zone
+  pub interfaces : IsWithoutRepeats zone.interfaces
+  pub sources : IsWithoutRepeats zone.sources
 
-all_sound : (config : Config) → IsValid config → Each (IsSound config) config.zones
+pub all_sound : (config : Config) → IsValid config → Each (IsSound config) config.zones
 all_sound config valid = all_each (IsSound config) config.zones (λ zone there. record {
   rules = record {
     known = each_in (λ (zone : Zone). NamesKnown config zone.rules) config.zones zone (rules_of_zones (NamesKnown config) config valid.known.in_rules) there;
@@ -94,22 +94,22 @@ sound : (config : Config) (others : List Zone) (zone : Zone) → IsFitZone confi
 sound config others zone fit = record { rules = fit.rules; sets = fit.sets; interfaces = fit.interfaces_once; sources = fit.sources_once }
 
 -- a name that a policy has is still that of a zone
-abbrev Known : (config : Config) → List Zone → Policy → Type 0
+abbrev pub Known : (config : Config) → List Zone → Policy → Type 0
 Known config zones policy =
     (name : List ℕ) → (IsIn name policy.ingress ⊎ IsIn name policy.egress) → IsIn name (zone_names config) → IsIn name (map name_of zones)
 
 -- what is asked of other zones, so that they keep a configuration valid
-record KeepValid (config : Config) (zones : List Zone) : Type 0 where
-  names : AreNames (map name_of zones)
-  no_host : ¬ (IsIn host (map name_of zones))
-  no_any : ¬ (IsIn any (map name_of zones))
-  default_zone : IsIn config.default_zone (map name_of zones)
-  in_policies : Each (Known config zones) config.policies
-  interfaces : IsInOneZone interfaces_of with_interfaces zones
-  sources : IsInOneZone sources_of with_sources zones
-  each : Each (IsSound config) zones
+pub record KeepValid (config : Config) (zones : List Zone) : Type 0 where
+  pub names : AreNames (map name_of zones)
+  pub no_host : ¬ (IsIn host (map name_of zones))
+  pub no_any : ¬ (IsIn any (map name_of zones))
+  pub default_zone : IsIn config.default_zone (map name_of zones)
+  pub in_policies : Each (Known config zones) config.policies
+  pub interfaces : IsInOneZone interfaces_of with_interfaces zones
+  pub sources : IsInOneZone sources_of with_sources zones
+  pub each : Each (IsSound config) zones
 
-valid_with : (config : Config) (zones : List Zone) → IsValid config → KeepValid config zones → IsValid (with_zones config zones)
+pub valid_with : (config : Config) (zones : List Zone) → IsValid config → KeepValid config zones → IsValid (with_zones config zones)
 valid_with config zones valid keep = record {
   names = record {
     zones = keep.names;
@@ -151,7 +151,7 @@ valid_with config zones valid keep = record {
 }
 
 -- all policies name zones that are still there, where every name is
-all_known : (config : Config) (zones : List Zone) → ((name : List ℕ) → IsIn name (zone_names config) → IsIn name (map name_of zones)) → Each (Known config zones) config.policies
+pub all_known : (config : Config) (zones : List Zone) → ((name : List ℕ) → IsIn name (zone_names config) → IsIn name (map name_of zones)) → Each (Known config zones) config.policies
 all_known config zones kept = all_each (Known config zones) config.policies (λ policy there name found known. kept name known)
 
 pub changed_zone : (config : Config) (place : ℕ) (old new : Zone) → IsValid config → slice_get config.zones place ≡ Some old → new.name ≡ old.name → IsFitZone config (remove config.zones place) new → IsValid (with_zones config (slice_set config.zones place new))

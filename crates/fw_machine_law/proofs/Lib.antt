@@ -1,0 +1,3 @@
+pub mod Called
+pub mod Counted
+pub mod Stepped

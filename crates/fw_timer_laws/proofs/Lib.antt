@@ -1,0 +1,4 @@
+pub mod Has
+pub mod Held
+pub mod Passed
+pub mod Timers
