@@ -1,5 +1,5 @@
 -- The numbers of the next zone and of the next policy stay in their range.
-use Rattle.std.proofs.Common.{◌≡◌, ℕ, ◌≤◌, Bool, true, false, not, if◌then◌else◌, codes, List, Option, None, Some, Result, Ok, refl, sym, subst, arith}
+use Rattle.std.proofs.Common.{◌≡◌, ℕ, ◌≤◌, Bool, true, false, not, if◌then◌else◌, codes, List, Option, None, Some, Result, Ok, refl, sym, subst}
 use Rattle.std.specs.Str.{bytes_eq}
 use Rattle.fw_act.specs.Acts.{Answered, found_or, refused_as, replied, required}
 use Rattle.fw_calls.specs.declared.call.BindingWord.{BindingWord}
@@ -59,8 +59,9 @@ use Rattle.fw_policy_members.specs.Updates as policy_updates
 use Rattle.fw_policy_members.specs.Updates.{set_policy_settings_member}
 use Rattle.fw_root_members.specs.Changing.{disable_panic_member, enable_panic_member, has_zone, set_default_zone_member, set_log_denied_member}
 use Rattle.fw_root_members.specs.LogDenied.{log_denied, same_log_denied}
-use Rattle.fw_root_members.specs.Numbering.{behind, to_permanent_member}
+use Rattle.fw_root_members.specs.Numbering.{to_permanent_member}
 use Rattle.fw_root_members.specs.Reloading.{reloaded}
+use Rattle.fw_roots_valid.proofs.Numbered.{behind_within}
 use Rattle.fw_settings.specs.Valid.{AreValid, last_number}
 use Rattle.fw_settings.specs.declared.settings.Settings.{Settings}
 use Rattle.fw_time_links.specs.Linking.{comes, goes, holder_of, home, link_gone, link_up, linked, seen, some_has}
@@ -271,9 +272,6 @@ root_calls_range law settings root.RuntimeToPermanent answered valid range is =
     ranged (to_permanent_member settings) answered (record { zone = numbers.0; policy = numbers.1 }) is
 
 -- members on the permanent settings
-behind_within : (next : ℕ) → behind next ≤ last_number
-behind_within next = grind arith
-
 config_calls_range : (settings : Settings) (call : ConfigCall) (answered : Answered Settings) → AreInRange settings → config_called settings call ≡ Ok answered → AreInRange answered.after
 unfolding config_called zone_by_name_member policy_by_name_member add_zone_member add_policy_member with_zone with_policy
 config_calls_range settings config.ZoneNames answered range is = ranged _ answered range is

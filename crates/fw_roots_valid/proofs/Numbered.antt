@@ -20,7 +20,7 @@ use Rattle.fw_zone.specs.Lists.{IsIn}
 abbrev IsBelow : (next number : ℕ) → Type 0
 IsBelow next number = (number < next) ⊎ ((number ≡ last_number) × (next ≡ last_number))
 
-behind_within : (next : ℕ) → behind next ≤ last_number
+pub behind_within : (next : ℕ) → behind next ≤ last_number
 behind_within next = grind arith
 
 behind_grows : (next : ℕ) → next ≤ last_number → next ≤ behind next

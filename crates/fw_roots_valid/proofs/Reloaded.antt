@@ -7,8 +7,9 @@ use Rattle.fw_roots_valid.proofs.Bound.{holder, not_nowhere}
 use Rattle.fw_roots_valid.proofs.Lists.{in_either, mapped_at, once_joined, one_place, same_item}
 use Rattle.fw_settings.specs.Valid.{AreValid}
 use Rattle.fw_settings.specs.declared.settings.Settings.{Settings}
+use Rattle.fw_timer_laws.proofs.Passed.{once_passed}
 use Rattle.fw_times_valid.proofs.Ended.{found_named}
-use Rattle.fw_times_valid.proofs.Kept.{once_kept, was_kept}
+use Rattle.fw_times_valid.proofs.Kept.{was_kept}
 use Rattle.fw_valid.specs.Each.{IsWithoutRepeats}
 use Rattle.fw_valid.specs.Names.{AreNames, any, host}
 use Rattle.fw_valid.specs.Valid.{IsInOneZone, IsValid}
@@ -46,7 +47,7 @@ module _ (permanent in_force : Config) (kept : IsValid permanent) (was : IsValid
   staying_once zone =
       let names = interfaces_of in_force.zones zone.name in
       subst IsWithoutRepeats (identity (staying zone))
-      (once_kept (λ (name : List ℕ). not (is_bound permanent.zones name)) (λ (name : List ℕ). name) names
+      (once_passed (λ (name : List ℕ). name) (λ (name : List ℕ). not (is_bound permanent.zones name)) names
       (subst IsWithoutRepeats (sym (identity names)) (found_once (zone_named in_force.zones zone.name) zone.name refl)))
 
   stayed_sound : (zone : Zone) → IsIn zone permanent.zones → IsSound permanent zone → IsSound permanent (stayed zone)

@@ -19,31 +19,13 @@ module _ {A : Type 0} (test : A → Bool) where
       by true is rest (inr there) = further (rest there)
       by false is rest there = further (rest there)
 
-  -- what a function gives of what is kept it gave
-  given : {B : Type 0} (of : A → B) (items : List A) (value : B) → IsIn value (map of (filter test items)) → IsIn value (map of items)
-  given of [] value found = found
-  given {B} of (item ∷ items) value found = by (test item) (λ there. given of items value there) found
-    where
-      by : (passes : Bool) → (IsIn value (map of (filter test items)) → IsIn value (map of items)) → IsIn value (map of (cond passes (item ∷ filter test items) (filter test items))) → IsIn value (map of (item ∷ items))
-      by true rest (inl here) = inl here
-      by true rest (inr there) = inr (rest there)
-      by false rest there = inr (rest there)
-
-  -- and it gives nothing twice, where it gave nothing twice
-  pub once_kept : {B : Type 0} (of : A → B) (items : List A) → IsWithoutRepeats (map of items) → IsWithoutRepeats (map of (filter test items))
-  once_kept of [] once = tt
-  once_kept of (first ∷ others) once = by (test first) (λ found. once.0 (given of others (of first) found)) (once_kept of others once.1)
-    where
-      by : (passes : Bool) → ¬ (IsIn (of first) (map of (filter test others))) → IsWithoutRepeats (map of (filter test others)) → IsWithoutRepeats (map of (cond passes (first ∷ filter test others) (filter test others)))
-      by true absent rest = (absent, rest)
-      by false absent rest = rest
-
--- two items of which a function gives the same are one
+-- a function gives what it gives of an item among what it gives of all
 pub in_list : {A B : Type 0} (of : A → B) (items : List A) (item : A) → IsIn item items → IsIn (of item) (map of items)
 in_list of [] item found = absurd found
 in_list of (first ∷ others) item (inl here) = inl (ap of here)
 in_list of (first ∷ others) item (inr there) = inr (in_list of others item there)
 
+-- items of which it gives the same are one, where it gives nothing twice
 pub one_item : {A B : Type 0} (of : A → B) (items : List A) (one other : A) → IsWithoutRepeats (map of items) → IsIn one items → IsIn other items → of one ≡ of other → one ≡ other
 one_item of [] one other once found also same = absurd found
 one_item of (first ∷ others) one other once (inl here) (inl too) same = sym here ∙ too

@@ -6,16 +6,14 @@ use Rattle.std.specs.Str.{bytes_eq}
 use Rattle.fw_act.specs.Acts.{replied}
 use Rattle.fw_model.specs.declared.code.Code.TheVariants as code
 use Rattle.fw_model.specs.declared.config.Config.{Config}
-use Rattle.fw_model.specs.declared.setting.Timed.{Timed}
 use Rattle.fw_model.specs.declared.zone.Zone.{Zone}
 use Rattle.fw_rich_valid.proofs.Saying.{some_inner, some_then}
 use Rattle.fw_settings.specs.Parts as parts
-use Rattle.fw_settings.specs.Valid.{AreValid, IsHeld, subject}
+use Rattle.fw_settings.specs.Valid.{AreValid}
 use Rattle.fw_settings.specs.declared.settings.Settings.{Settings}
 use Rattle.fw_time_links.specs.Linking.{comes, goes, has_name, holder_of, home, is_home, link_gone, link_up, linked, seen, some_has}
-use Rattle.fw_times_valid.proofs.Held.{held_beside}
+use Rattle.fw_timer_laws.proofs.Held.{timers_stay}
 use Rattle.fw_valid.specs.Valid.{IsValid}
-use Rattle.fw_valid_edits.proofs.Edited.{each_weaker}
 use Rattle.fw_valid_edits.proofs.ZoneEdits.{changed_zone, zone_beside}
 use Rattle.fw_valid_edits.specs.Fit.{with_zones}
 use Rattle.fw_zone_edits.specs.Entries.{bound, lists, with_entry, without_entry}
@@ -35,12 +33,7 @@ entries_changed settings found interfaces valid at runtime =
     record {
       permanent = valid.permanent;
       runtime = runtime;
-      timers = record {
-        held = each_weaker (λ (timed : Timed). IsHeld config (subject timed)) (λ (timed : Timed). IsHeld (with_zones config (slice_set config.zones found.place new)) (subject timed)) settings.timers
-            (λ timed held. held_beside config found.place found.zone new (subject timed) at refl (λ of_zone has. has) held) valid.timers.held;
-        once = valid.timers.once;
-        in_time = valid.timers.in_time;
-      };
+      timers = timers_stay config found.place found.zone new settings.timers at refl refl valid.timers;
       now = valid.now;
       zones = valid.zones;
       policies = valid.policies;

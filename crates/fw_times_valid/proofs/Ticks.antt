@@ -8,9 +8,10 @@ use Rattle.fw_settings.specs.Valid.{AreTimers, AreValid, IsHeld, last_deadline, 
 use Rattle.fw_settings.specs.declared.settings.Settings.{Settings}
 use Rattle.fw_time_links.specs.Ticking.{at_time, ticked}
 use Rattle.fw_timed.specs.Timers.{due, ends_before, is_due, not_due}
+use Rattle.fw_timer_laws.proofs.Passed.{each_passed, once_passed}
 use Rattle.fw_times_valid.proofs.Ended.{all_ended_valid}
 use Rattle.fw_times_valid.proofs.Held.{all_ended_held}
-use Rattle.fw_times_valid.proofs.Kept.{once_kept, one_item, was_in_order, was_kept}
+use Rattle.fw_times_valid.proofs.Kept.{one_item, was_in_order, was_kept}
 use Rattle.fw_valid.specs.Each.{Each}
 use Rattle.fw_valid_edits.proofs.Edited.{all_each, each_in}
 use Rattle.fw_valid_edits.specs.Fit.{with_zones}
@@ -32,9 +33,8 @@ module _ (config : Config) (timers : List Timed) (now : ℕ) (are : AreTimers co
     held = all_each (λ (timed : Timed). IsHeld (with_zones config (all_ended config.zones (due timers now))) (subject timed)) (not_due timers now) (λ timed left.
         let was = was_kept (λ (timed : Timed). not (is_due now timed)) timers timed left in
         all_ended_held config (due timers now) (subject timed) (apart timed left) (each_in (λ (timed : Timed). IsHeld config (subject timed)) timers timed are.held was.0));
-    once = once_kept (λ (timed : Timed). not (is_due now timed)) subject timers are.once;
-    in_time = all_each (λ (timed : Timed). timed.deadline ≤ last_deadline) (not_due timers now) (λ timed left.
-        each_in (λ (timed : Timed). timed.deadline ≤ last_deadline) timers timed are.in_time (was_kept (λ (timed : Timed). not (is_due now timed)) timers timed left).0);
+    once = once_passed subject (λ (timed : Timed). not (is_due now timed)) timers are.once;
+    in_time = each_passed (λ (timed : Timed). timed.deadline ≤ last_deadline) (λ (timed : Timed). timed.deadline ≤ last_deadline) (λ (timed : Timed). not (is_due now timed)) timers (λ timed goes_on in_time. in_time) are.in_time;
   }
 
 latest : (one other bound : ℕ) → one ≤ bound → other ≤ bound → max one other ≤ bound
