@@ -1,2 +1,5 @@
+pub mod Beginning
 pub mod Left
+pub mod Ranges
 pub mod Reading
+pub mod Serving

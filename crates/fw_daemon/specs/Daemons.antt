@@ -1,5 +1,5 @@
 -- The daemon in one thread (this project's own): what is seen of it, what holds of it whenever no call on it runs, and what a call leaves.
-use Rattle.std.specs.Prelude.{◌≡◌, ℕ, ◌+◌, ◌-◌, ◌^◌, ◌<◌, ◌≤◌, min, List, [], ◌∷◌, length, None, IfSome, ⊥}
+use Rattle.std.specs.Prelude.{◌≡◌, ℕ, ◌+◌, ◌-◌, ◌^◌, ◌<◌, ◌≤◌, min, List, [], ◌∷◌, length, None, IfSome}
 use Rattle.fw_calls.specs.declared.applied.Applied.{Applied}
 use Rattle.fw_calls.specs.declared.applied.Applied.TheVariants as applied
 use Rattle.fw_calls.specs.declared.desk.Handled.{Handled}

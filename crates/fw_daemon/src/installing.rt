@@ -1,5 +1,5 @@
 //! The ruleset of the settings in force, and what becomes of it.
-ghost use Rattle.std.specs.Prelude.{◌≡◌, ◌≢◌, ◌↔◌, ◌⊎◌, ◌<◌, ◌^◌, true, false, None, Some, OnOk, OnErr, IsSome, MatchBool};
+ghost use Rattle.std.specs.Prelude.{◌≡◌, ◌≢◌, ◌↔◌, ◌⊎◌, ◌<◌, ◌^◌, true, false, None, Some, OnOk, OnErr, IsOk, IsSome, MatchBool};
 ghost use Rattle.fw_calls.specs.declared.applied.Applied.TheVariants as applied;
 ghost use Rattle.fw_daemon.specs.Outside.{IsCommittedTo, IsReady, IsReadyFor};
 ghost use Rattle.fw_valid.specs.Valid.{IsValid};
@@ -31,6 +31,7 @@ pub fn stage<B: Backend, C: Compiler>(alloc: Global, backend: &mut B, compiler: 
 /// The same where a commit is needed, and else nothing.
 pub fn stage_for<B: Backend, C: Compiler>(alloc: Global, needed: bool, backend: &mut B, compiler: &C, runtime: &Runtime) -> Result<(), Memory>
     requires { IsValid runtime.now.config }
+    ensures idle { needed ≡ false → IsOk result }
     ensures ready { OnOk result (IsReadyFor needed (C.makes compiler.now) runtime.now (B.kernel backend.old) (B.kernel backend.new)) }
     ensures memory { OnErr result (B.kernel backend.new ≡ B.kernel backend.old) }
 {

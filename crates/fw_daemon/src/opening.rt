@@ -1,15 +1,23 @@
 //! How a daemon begins.
-ghost use Rattle.std.specs.Prelude.{◌≡◌, ◌<◌, ◌^◌, IfOk, IfErr, IfSome, MatchResult, option_map};
-ghost use Rattle.fw_daemon.specs.Opening.{IsBad, IsBadText, IsLoaded, IsNotLoaded};
+ghost use Rattle.std.specs.Prelude.{◌≡◌, ◌≤◌, ◌<◌, ◌^◌, None, Some, IfOk, IfErr, IfSome, IsSome, MatchResult, option_map};
+ghost use Rattle.fw_daemon.specs.Opening.{IsBad, IsBadText, IsBegun, IsInstalled, IsLoaded, IsNotBegun, IsNotLoaded};
+ghost use Rattle.fw_daemon.specs.declared.opening.OpenError.TheVariants as refused;
 ghost use Rattle.fw_daemon.specs.Outside.{Holds, Says};
+ghost use Rattle.fw_history.specs.History.{highest_limit};
 ghost use Rattle.fw_valid.specs.Valid.{IsValid};
+ghost use Rattle.nf_kernel.specs.Installed.{Kernel, with_staged};
+ghost use Rattle.nf_kernel.specs.declared.kernel.Ready.{Ready as ReadyValue};
 
+use crate::installing::stage;
 use fw_base::Memory;
+use fw_history::History;
 use fw_keeper::{KeepError, Keeper};
 use fw_model::Config;
 use fw_restore::{ConfigError, config_from_text};
 use fw_service::built_in_config;
 use fw_valid::the_built_in_configuration_is_valid;
+use nf_goal::Compiler;
+use nf_kernel::Backend;
 use std::alloc::Global;
 
 /// Why a daemon can't begin.
@@ -73,4 +81,45 @@ pub fn first_config(alloc: Global, text: Option<Vec<u8>>) -> Result<Config, Open
         Some(text) => config_of(alloc, text.as_slice()),
         None => Ok(built_in_config(alloc)?),
     }
+}
+
+/// Installs what is staged.
+///
+/// Refuses NotInstalled, where the kernel failed.
+fn install<B: Backend>(backend: &mut B) -> Result<(), OpenError>
+    requires staged { IsSome (B.kernel backend.old).staged }
+    requires asked { (B.kernel backend.old).asked < 2 ^ 62 }
+    ensures installed { (ready : ReadyValue) (before : Kernel) → B.kernel backend.old ≡ with_staged (Some ready) before → IsInstalled ready.after before (B.kernel backend.new) result }
+    ensures refused { IfErr result (λ why. why ≡ refused.NotInstalled) }
+{
+    match backend.commit() {
+        Ok(()) => Ok(()),
+        Err(_) => Err(OpenError::NotInstalled),
+    }
+}
+
+/// The history that begins with what a keeper holds, whose ruleset is installed.
+///
+/// Refuses StoreFault where the load failed, BadConfig with the first fault of a text that isn't accepted, NotInstalled where the kernel
+/// failed, and Memory. What was installed and what was held stay.
+pub fn begin<B: Backend, K: Keeper, C: Compiler>(
+    alloc: Global,
+    backend: &mut B,
+    keeper: &mut K,
+    compiler: &C,
+    limit: u64,
+) -> Result<History, OpenError>
+    requires staged { (B.kernel backend.old).staged ≡ None }
+    requires asked { (B.kernel backend.old).asked < 2 ^ 62 }
+    requires calls { (K.kept keeper.old).calls < 2 ^ 62 }
+    requires limit { limit ≤ highest_limit }
+    ensures begun { IfOk result (IsBegun (C.makes compiler.now) (B.kernel backend.old) (B.kernel backend.new) (K.kept keeper.old) (K.kept keeper.new) limit) }
+    ensures refused { IfErr result (IsNotBegun (B.kernel backend.old) (B.kernel backend.new) (K.kept keeper.old) (K.kept keeper.new)) }
+{
+    let text = load(alloc, keeper)?;
+    let first = first_config(alloc, text)?;
+    let history = History::begin(alloc, first, limit)?;
+    stage(alloc, backend, compiler, &history.settings().runtime)?;
+    install(backend)?;
+    Ok(history)
 }

@@ -1,5 +1,5 @@
 //! The permanent settings as text, and what becomes of it.
-ghost use Rattle.std.specs.Prelude.{◌≡◌, ◌<◌, ◌^◌, true, false, None, Some, IfOk, option_map};
+ghost use Rattle.std.specs.Prelude.{◌≡◌, ◌<◌, ◌^◌, false, IfOk, IsOk, option_map};
 ghost use Rattle.fw_daemon.specs.Outside.{IsSaved, IsTextFor};
 
 use fw_base::Memory;
@@ -13,7 +13,8 @@ use std::alloc::Global;
 ///
 /// Refuses for want of memory alone.
 pub fn text_for(alloc: Global, needed: bool, permanent: &Config) -> Result<Option<Vec<u8>>, Memory>
-    ensures { IfOk result (λ text. IsTextFor needed permanent.now (option_map (λ bytes. bytes.items) text)) }
+    ensures idle { needed ≡ false → IsOk result }
+    ensures text { IfOk result (λ text. IsTextFor needed permanent.now (option_map (λ bytes. bytes.items) text)) }
 {
     if needed {
         Ok(Some(config_to_text(alloc, permanent)?))
