@@ -41,7 +41,7 @@ holds_where None text config given holds = tt
 holds_where (Some held) text config given holds = first_holds held text config given holds
 
 -- it begins
-pub begun : {X Y : Type 0} (makes : Runtime → Ruleset → Type 0) (before staged now : Kernel) (kept later : Kept) (limit : ℕ) (history : Recorded) (text : Option (List ℕ)) (first : Config) (loaded : Result Y OpenError) (value : Y) (result : Result X OpenError) (nothing : X)
+pub begun : {X Y : Type 0} (makes : Runtime → Ruleset → Type 0) (before staged now : Kernel) (kept later : Kept) (limit : ℕ) (history : Recorded) (text : Option (List ℕ)) (first : Config) (loaded : Result Y OpenError) (result : Result X OpenError) (nothing : X)
     → IsLoaded kept later loaded
     → IfSome kept.held (λ held. text ≡ held)
     → Holds text first
@@ -53,7 +53,7 @@ pub begun : {X Y : Type 0} (makes : Runtime → Ruleset → Type 0) (before stag
     → ((ready : Ready) (was : Kernel) → staged ≡ with_staged (Some ready) was → IsInstalled ready.after was now result)
     → result ≡ Ok nothing
     → IsBegun makes before now kept later limit history
-begun {X} makes before staged now kept later limit history text first loaded value result nothing load given holds first_is settings entries limit_is ready installed is =
+begun {X} makes before staged now kept later limit history text first loaded result nothing load given holds first_is settings entries limit_is ready installed is =
     let done : IsInstalled ready.ready.after before now result = installed ready.ready before ready.is in
     let there : now.installed ≡ ready.ready.after = subst (λ (those : Result X OpenError). OnOk those (now.installed ≡ ready.ready.after)) is done.done in
     record {

@@ -7,5 +7,5 @@ mod installing;
 mod opening;
 mod saving;
 
-pub use daemon::Daemon;
+pub use daemon::{Closed, Daemon, NotOpened};
 pub use opening::OpenError;

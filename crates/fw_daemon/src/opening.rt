@@ -120,6 +120,8 @@ pub fn begin<B: Backend, K: Keeper, C: Compiler>(
     let first = first_config(alloc, text)?;
     let history = History::begin(alloc, first, limit)?;
     stage(alloc, backend, compiler, &history.settings().runtime)?;
-    install(backend)?;
-    Ok(history)
+    match install(backend) {
+        Ok(()) => Ok(history),
+        Err(why) => Err(why),
+    }
 }

@@ -92,6 +92,17 @@ impl History {
         &self.journal
     }
 
+    /// The entries of the journal, and the settings that they leave. It takes no memory.
+    pub fn into_parts(self) -> (Vec<Entry>, Settings)
+        ensures entries { result.0.items ≡ self.journal.entries }
+        ensures settings { result.1 ≡ self.settings }
+    {
+        let History {
+            settings, journal, ..
+        } = self;
+        (journal.into_entries(), settings)
+    }
+
     /// Makes room for so many entries more.
     ///
     /// Refuses for want of memory alone, and never where there is room already.
