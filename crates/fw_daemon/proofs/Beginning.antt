@@ -1,15 +1,19 @@
 -- How a daemon begins.
-use Rattle.std.proofs.Common.{arith, ◌≡◌, ◌+◌, ℕ, List, [], Option, None, Some, Result, Ok, Err, IfSome, IfOk, MatchResult, OnOk, OnErr, refl, ap, sym, ◌∙◌, subst, option_map}
+use Rattle.std.proofs.Common.{arith, ◌≡◌, ◌≤◌, ◌+◌, ℕ, List, [], length, Option, None, Some, Result, Ok, Err, IfSome, IfOk, MatchResult, OnOk, OnErr, refl, ap, sym, ◌∙◌, subst, option_map}
 use Rattle.fw_base.specs.Causes.{Rose}
+use Rattle.fw_calls.specs.declared.applied.Applied.{Applied}
+use Rattle.fw_calls.specs.declared.event.Entry.{Entry}
+use Rattle.fw_daemon.specs.Daemons.{Counted, Served, Sound, failures, most_before}
 use Rattle.fw_daemon.specs.Opening.{IsBad, IsBegun, IsInstalled, IsLoaded, IsNotBegun}
 use Rattle.fw_daemon.specs.Outside.{Holds, IsReady}
 use Rattle.fw_daemon.specs.declared.opening.OpenError.{OpenError}
 use Rattle.fw_daemon.specs.declared.opening.OpenError.TheVariants as refused
-use Rattle.fw_history.specs.History.{Recorded}
+use Rattle.fw_history.specs.History.{IsHistory, Recorded}
 use Rattle.fw_keeper.specs.Kept.{Kept}
 use Rattle.fw_model.specs.declared.config.Config.{Config}
 use Rattle.fw_model.specs.declared.runtime.Runtime.{Runtime}
 use Rattle.fw_settings.specs.Starting.{started}
+use Rattle.fw_settings.specs.declared.settings.Settings.{Settings}
 use Rattle.nf_goal.specs.Compiles.{Compiles}
 use Rattle.nf_kernel.specs.Installed.{Kernel, with_staged}
 use Rattle.nf_kernel.specs.declared.kernel.Ready.{Ready}
@@ -68,3 +72,44 @@ begun {X} makes before staged now kept later limit history text first loaded res
       calls = load.calls;
       held = load.held;
     }
+
+no_failures : (result_of : Entry → Applied) (entries : List Entry) (first : ℕ) → entries ≡ [] → Counted first (failures result_of entries) first
+unfolding failures
+no_failures result_of entries first none =
+    subst (λ (those : List Entry). Counted first (failures result_of those) first) (sym none) (at_first first) where
+  at_first : (count : ℕ) → Counted count 0 count
+  at_first count = omega arith
+
+none_asked : (before now count : ℕ) → before ≤ most_before → now ≡ before + 1 → now ≤ most_before + 1 + count
+none_asked before now count at_most is = omega (arith, at_most, is)
+
+held_first : (was now : Option (Option (List ℕ))) (first kept_now : Config) → now ≡ was → kept_now ≡ first
+    → IfSome was (λ held. Holds held first) → IfSome now (λ held. Holds held kept_now)
+held_first was now first kept_now same is holds =
+    subst (λ (those : Option (Option (List ℕ))). IfSome those (λ held. Holds held kept_now)) (sym same)
+    (subst (λ (config : Config). IfSome was (λ held. Holds held config)) (sym is) holds)
+
+-- what holds of a daemon that begins
+pub sound_first : {B K C : Type 0} (kernel : B → Kernel) (kept : K → Kept) (makes : C → Runtime → Ruleset → Type 0) (daemon : Served B K C) (before : Kernel) (kept_before : Kept) (limit : ℕ)
+    → IsBegun (makes daemon.compiler) before (kernel daemon.backend) kept_before (kept daemon.keeper) limit daemon.history
+    → IsHistory daemon.history
+    → before.asked ≤ most_before
+    → kept_before.calls ≤ most_before
+    → daemon.backend_faults ≡ (kernel daemon.backend).faults
+    → daemon.keeper_faults ≡ (kept daemon.keeper).faults
+    → Sound kernel kept makes daemon
+sound_first kernel kept makes daemon before kept_before limit begun history asked calls backend_faults keeper_faults = record {
+  history = history;
+  made = begun.made;
+  compiles = begun.compiles;
+  staged = begun.staged;
+  text = held_first kept_before.held (kept daemon.keeper).held daemon.history.first daemon.history.settings.permanent begun.held (ap (λ (settings : Settings). settings.permanent) begun.settings) begun.holds;
+  commits_failed =
+    subst (λ (count : ℕ). Counted count (failures (λ one. one.commit) daemon.history.journal.entries) (kernel daemon.backend).faults) (sym backend_faults)
+    (no_failures (λ one. one.commit) daemon.history.journal.entries (kernel daemon.backend).faults begun.entries);
+  saves_failed =
+    subst (λ (count : ℕ). Counted count (failures (λ one. one.save) daemon.history.journal.entries) (kept daemon.keeper).faults) (sym keeper_faults)
+    (no_failures (λ one. one.save) daemon.history.journal.entries (kept daemon.keeper).faults begun.entries);
+  asked = none_asked before.asked (kernel daemon.backend).asked (length daemon.history.journal.entries) asked begun.asked;
+  calls = none_asked kept_before.calls (kept daemon.keeper).calls (length daemon.history.journal.entries) calls begun.calls;
+}

@@ -12,6 +12,8 @@ use Rattle.fw_journal.specs.Journal.{joined, weights}
 use Rattle.fw_machine.specs.Machine.{step}
 use Rattle.fw_model.specs.declared.runtime.Runtime.{Runtime}
 use Rattle.fw_proposals.specs.Proposals.{Proposes}
+use Rattle.fw_replay.specs.Replay.{played, signals_of}
+use Rattle.fw_settings.specs.Starting.{started}
 use Rattle.fw_settings.specs.declared.proposal.Proposal.{Proposal}
 use Rattle.fw_settings.specs.declared.settings.Settings.{Settings}
 use Rattle.nf_kernel.specs.Installed.{Kernel}
@@ -43,9 +45,15 @@ few_for (entry ∷ entries) (signals ∷ told) same =
     let more : (one two count : ℕ) → 64 ≤ one → 64 * count ≤ two → 64 * (count + 1) ≤ one + two = λ one two count some others. omega (arith, some, others) in
     more (weight entry.event signals) (weights entries told) (length entries) (weighs_something entry.event signals) (few_for entries told (omega (arith, same)))
 
+signals_long : (first : Settings) (entries : List Entry) → length (signals_of first entries) ≡ length entries
+unfolding signals_of
+signals_long first [] = refl
+signals_long first (entry ∷ others) = ap (λ (count : ℕ). count + 1) (signals_long (played first entry).settings others)
+
 -- the journal has few entries
-pub few : (history : Recorded) → IsHistory history → length history.journal.told ≡ length history.journal.entries → length history.journal.entries ≤ 2 ^ 34
-few history is same =
+pub few : (history : Recorded) → IsHistory history → length history.journal.entries ≤ 2 ^ 34
+few history is =
+    let same : length history.journal.told ≡ length history.journal.entries = ap length is.told ∙ signals_long (started history.first) history.journal.entries in
     let all : 64 * length history.journal.entries ≤ weights history.journal.entries history.journal.told = few_for history.journal.entries history.journal.told same in
     omega (arith, all, is.weight, is.limit)
 
@@ -53,10 +61,13 @@ few history is same =
 pub not_many : (before count : ℕ) → before ≤ most_before + 1 + count → count ≤ 2 ^ 34 → before < 2 ^ 62
 not_many before count at_most short = omega (arith, at_most, short)
 
-pub staged_there : (needed : Bool) (makes : Runtime → Ruleset → Type 0) (runtime : Runtime) (before now : Kernel) → IsReadyFor needed makes runtime before now → needed ≡ true → IsSome now.staged
-staged_there true makes runtime before now ready is = subst (λ (those : Kernel). IsSome those.staged) (sym ready.is) tt
-staged_there false makes runtime before now ready is = absurd cc
+asked_again : (needed : Bool) (makes : Runtime → Ruleset → Type 0) (runtime : Runtime) (before now : Kernel) → IsReadyFor needed makes runtime before now → now.asked ≡ before.asked
+asked_again true makes runtime before now ready = ap (λ (those : Kernel). those.asked) ready.is
+asked_again false makes runtime before now ready = ap (λ (those : Kernel). those.asked) ready
 
-pub still_asked : (needed : Bool) (makes : Runtime → Ruleset → Type 0) (runtime : Runtime) (before now : Kernel) → IsReadyFor needed makes runtime before now → now.asked ≡ before.asked
-still_asked true makes runtime before now ready = ap (λ (those : Kernel). those.asked) ready.is
-still_asked false makes runtime before now ready = ap (λ (those : Kernel). those.asked) ready
+pub few_asked : (needed : Bool) (makes : Runtime → Ruleset → Type 0) (runtime : Runtime) (before now : Kernel) (count : ℕ) → IsReadyFor needed makes runtime before now
+    → before.asked ≤ most_before + 1 + count → count ≤ 2 ^ 34 → now.asked < 2 ^ 62
+few_asked needed makes runtime before now count ready at_most short =
+    let same : now.asked ≡ before.asked = asked_again needed makes runtime before now ready in
+    let less : before.asked < 2 ^ 62 = not_many before.asked count at_most short in
+    omega (arith, same, less)
