@@ -1,10 +1,10 @@
 -- How a daemon begins.
-use Rattle.std.proofs.Common.{arith, ◌≡◌, ◌≤◌, ◌+◌, ℕ, List, [], length, Option, None, Some, Result, Ok, Err, IfSome, IfOk, MatchResult, OnOk, OnErr, refl, ap, sym, ◌∙◌, subst, option_map}
+use Rattle.std.proofs.Common.{arith, ◌≡◌, ◌≤◌, ◌+◌, ℕ, List, [], length, Option, None, Some, Result, Ok, Err, IfSome, OnOk, OnErr, ap, sym, ◌∙◌, subst}
 use Rattle.fw_base.specs.Causes.{Rose}
 use Rattle.fw_calls.specs.declared.applied.Applied.{Applied}
 use Rattle.fw_calls.specs.declared.event.Entry.{Entry}
 use Rattle.fw_daemon.specs.Daemons.{Counted, Served, Sound, failures, most_before}
-use Rattle.fw_daemon.specs.Opening.{IsBad, IsBegun, IsInstalled, IsLoaded, IsNotBegun}
+use Rattle.fw_daemon.specs.Opening.{IsBegun, IsInstalled, IsLoaded, IsNotBegun}
 use Rattle.fw_daemon.specs.Outside.{Holds, IsReady}
 use Rattle.fw_daemon.specs.declared.opening.OpenError.{OpenError}
 use Rattle.fw_daemon.specs.declared.opening.OpenError.TheVariants as refused
@@ -77,8 +77,8 @@ no_failures : (result_of : Entry → Applied) (entries : List Entry) (first : �
 unfolding failures
 no_failures result_of entries first none =
     subst (λ (those : List Entry). Counted first (failures result_of those) first) (sym none) (at_first first) where
-  at_first : (count : ℕ) → Counted count 0 count
-  at_first count = omega arith
+      at_first : (count : ℕ) → Counted count 0 count
+      at_first count = omega arith
 
 none_asked : (before now count : ℕ) → before ≤ most_before → now ≡ before + 1 → now ≤ most_before + 1 + count
 none_asked before now count at_most is = omega (arith, at_most, is)
@@ -105,11 +105,11 @@ sound_first kernel kept makes daemon before kept_before limit begun history aske
   staged = begun.staged;
   text = held_first kept_before.held (kept daemon.keeper).held daemon.history.first daemon.history.settings.permanent begun.held (ap (λ (settings : Settings). settings.permanent) begun.settings) begun.holds;
   commits_failed =
-    subst (λ (count : ℕ). Counted count (failures (λ one. one.commit) daemon.history.journal.entries) (kernel daemon.backend).faults) (sym backend_faults)
-    (no_failures (λ one. one.commit) daemon.history.journal.entries (kernel daemon.backend).faults begun.entries);
+      subst (λ (count : ℕ). Counted count (failures (λ one. one.commit) daemon.history.journal.entries) (kernel daemon.backend).faults) (sym backend_faults)
+      (no_failures (λ one. one.commit) daemon.history.journal.entries (kernel daemon.backend).faults begun.entries);
   saves_failed =
-    subst (λ (count : ℕ). Counted count (failures (λ one. one.save) daemon.history.journal.entries) (kept daemon.keeper).faults) (sym keeper_faults)
-    (no_failures (λ one. one.save) daemon.history.journal.entries (kept daemon.keeper).faults begun.entries);
+      subst (λ (count : ℕ). Counted count (failures (λ one. one.save) daemon.history.journal.entries) (kept daemon.keeper).faults) (sym keeper_faults)
+      (no_failures (λ one. one.save) daemon.history.journal.entries (kept daemon.keeper).faults begun.entries);
   asked = none_asked before.asked (kernel daemon.backend).asked (length daemon.history.journal.entries) asked begun.asked;
   calls = none_asked kept_before.calls (kept daemon.keeper).calls (length daemon.history.journal.entries) calls begun.calls;
 }

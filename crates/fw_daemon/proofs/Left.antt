@@ -1,5 +1,5 @@
 -- What an event leaves of the settings in force, of the permanent ones, and of counts.
-use Rattle.std.proofs.Common.{arith, ◌≡◌, ◌≢◌, ◌⊎◌, inl, inr, ◌≤◌, ◌+◌, ◌-◌, ◌^◌, min, ℕ, List, [], ◌∷◌, ◌++◌, length, refl, ap, sym, ◌∙◌, subst}
+use Rattle.std.proofs.Common.{arith, ◌≡◌, ◌≢◌, ◌⊎◌, inl, inr, ◌≤◌, ◌+◌, ℕ, List, [], ◌∷◌, ◌++◌, refl, sym, subst}
 use Rattle.fw_act.specs.Acts.{Answered}
 use Rattle.fw_base.specs.Causes.{Rose}
 use Rattle.fw_calls.specs.declared.applied.Applied.{Applied}

@@ -1,13 +1,13 @@
 -- What an event needs is there, over a history with more room.
-use Rattle.std.proofs.Common.{arith, ◌≡◌, ◌≤◌, ◌<◌, ◌+◌, ◌-◌, ◌*◌, ◌^◌, min, ℕ, List, [], ◌∷◌, ◌++◌, length, drop, true, false, Bool, None, Some, IsSome, refl, ap, sym, ◌∙◌, subst}
+use Rattle.std.proofs.Common.{arith, ◌≡◌, ◌≤◌, ◌<◌, ◌+◌, ◌-◌, ◌*◌, ◌^◌, min, ℕ, suc, List, [], ◌∷◌, ◌++◌, length, drop, true, false, Bool, refl, ap, sym, ◌∙◌, subst}
 use Rattle.std.specs.List.{sum_by}
 use Rattle.fw_calls.specs.Weight.{event_size, signal_size, weight}
 use Rattle.fw_calls.specs.declared.event.Entry.{Entry}
 use Rattle.fw_calls.specs.declared.event.Event.{Event}
 use Rattle.fw_calls.specs.declared.signal.Signal.{Signal}
-use Rattle.fw_daemon.specs.Daemons.{Served, Sound, most_before}
+use Rattle.fw_daemon.specs.Daemons.{most_before}
 use Rattle.fw_daemon.specs.Outside.{IsReadyFor}
-use Rattle.fw_history.specs.History.{IsHistory, IsPlanned, IsSame, Recorded, highest_limit, left}
+use Rattle.fw_history.specs.History.{IsHistory, IsPlanned, IsSame, Recorded, left}
 use Rattle.fw_journal.specs.Journal.{joined, weights}
 use Rattle.fw_machine.specs.Machine.{step}
 use Rattle.fw_model.specs.declared.runtime.Runtime.{Runtime}
@@ -26,10 +26,10 @@ planned_over old middle event from proposal told earlier same is = record {
   told_is = is.told_is ∙ ap (λ (all : List (List Signal)). joined (drop from all) ++ proposal.signals) (sym same.told);
   earlier_is = is.earlier_is ∙ ap (λ (all : List (List Signal)). length (joined (drop from all))) (sym same.told);
   fits =
-    subst (λ (now : Settings). weight event (step now event).signals ≤ left middle) (sym same.settings)
-    (subst (λ (limit : ℕ). weight event (step old.settings event).signals ≤ limit - weights middle.journal.entries middle.journal.told) (sym same.limit)
-    (subst (λ (entries : List Entry). weight event (step old.settings event).signals ≤ old.limit - weights entries middle.journal.told) (sym same.entries)
-    (subst (λ (all : List (List Signal)). weight event (step old.settings event).signals ≤ old.limit - weights old.journal.entries all) (sym same.told) is.fits)));
+      subst (λ (now : Settings). weight event (step now event).signals ≤ left middle) (sym same.settings)
+      (subst (λ (limit : ℕ). weight event (step old.settings event).signals ≤ limit - weights middle.journal.entries middle.journal.told) (sym same.limit)
+      (subst (λ (entries : List Entry). weight event (step old.settings event).signals ≤ old.limit - weights entries middle.journal.told) (sym same.entries)
+      (subst (λ (all : List (List Signal)). weight event (step old.settings event).signals ≤ old.limit - weights old.journal.entries all) (sym same.told) is.fits)));
 }
 
 weighs_something : (event : Event) (signals : List Signal) → 64 ≤ weight event signals
@@ -42,13 +42,13 @@ unfolding weights
 few_for [] told same = omega arith
 few_for (entry ∷ entries) [] same = absurd (omega (arith, same))
 few_for (entry ∷ entries) (signals ∷ told) same =
-    let more : (one two count : ℕ) → 64 ≤ one → 64 * count ≤ two → 64 * (count + 1) ≤ one + two = λ one two count some others. omega (arith, some, others) in
+    let more : (one two count : ℕ) → 64 ≤ one → 64 * count ≤ two → 64 * suc count ≤ one + two = λ one two count some others. omega (arith, some, others) in
     more (weight entry.event signals) (weights entries told) (length entries) (weighs_something entry.event signals) (few_for entries told (omega (arith, same)))
 
 signals_long : (first : Settings) (entries : List Entry) → length (signals_of first entries) ≡ length entries
 unfolding signals_of
 signals_long first [] = refl
-signals_long first (entry ∷ others) = ap (λ (count : ℕ). count + 1) (signals_long (played first entry).settings others)
+signals_long first (entry ∷ others) = ap suc (signals_long (played first entry).settings others)
 
 -- the journal has few entries
 pub few : (history : Recorded) → IsHistory history → length history.journal.entries ≤ 2 ^ 34

@@ -1,5 +1,5 @@
 -- A daemon that has carried an event out is one again.
-use Rattle.std.proofs.Common.{arith, ◌≡◌, ◌≢◌, ◌↔◌, ◌⊎◌, inl, inr, ◌≤◌, ◌+◌, ℕ, List, [], ◌∷◌, ◌++◌, length, length-append, Bool, true, false, Option, None, Some, IfSome, refl, ap, sym, ◌∙◌, subst, option_map}
+use Rattle.std.proofs.Common.{arith, ◌≡◌, ◌↔◌, ◌⊎◌, inl, inr, ◌≤◌, ◌+◌, ℕ, List, [], ◌∷◌, ◌++◌, length, length-append, Bool, true, false, Option, None, Some, IfSome, refl, ap, sym, ◌∙◌, subst, option_map}
 use Rattle.fw_act.specs.Acts.{Answered}
 use Rattle.fw_calls.specs.declared.applied.Applied.{Applied}
 use Rattle.fw_calls.specs.declared.applied.Applied.TheVariants as applied
@@ -10,13 +10,13 @@ use Rattle.fw_calls.specs.declared.signal.Signal.{Signal}
 use Rattle.fw_daemon.proofs.Left.{counted_on, failures_behind, permanent_is, permanent_stays, runtime_is, runtime_same, runtime_stays, tried_at_most}
 use Rattle.fw_daemon.specs.Acting.{IsCarriedOut}
 use Rattle.fw_daemon.specs.Daemons.{Counted, IsHandled, Served, Sound, failed, failures, most_before}
-use Rattle.fw_daemon.specs.Outside.{Holds, IsCommittedTo, IsInstalledAs, IsKeptAs, IsReady, IsReadyFor, IsSaved, IsTextFor, IsWritten, Says}
+use Rattle.fw_daemon.specs.Outside.{Holds, IsCommittedTo, IsInstalledAs, IsReadyFor, IsSaved, IsTextFor, Says}
 use Rattle.fw_history.specs.History.{IsEntered, IsHistory, IsSame, Recorded, entry_of}
 use Rattle.fw_keeper.specs.Kept.{Kept}
 use Rattle.fw_machine.specs.Machine.{step}
 use Rattle.fw_model.specs.declared.config.Config.{Config}
 use Rattle.fw_model.specs.declared.runtime.Runtime.{Runtime}
-use Rattle.fw_replay.specs.Replay.{played, settled_as}
+use Rattle.fw_replay.specs.Replay.{settled_as}
 use Rattle.fw_settings.specs.declared.settings.Settings.{Settings}
 use Rattle.nf_goal.specs.Compiles.{Compiles}
 use Rattle.nf_kernel.specs.Installed.{Kernel, with_staged}
@@ -31,8 +31,8 @@ entered_over old middle new event from save commit place signals reply same is =
   entries = is.entries ∙ ap (λ (entries : List Entry). entries ++ entry_of entries event save commit ∷ []) same.entries;
   settings = is.settings ∙ ap (λ (now : Settings). (settled_as now (step now event) save commit).settings) same.settings;
   told =
-    is.told ∙ ap (λ (told : List (List Signal)). told ++ (settled_as middle.settings (step middle.settings event) save commit).signals ∷ []) same.told
-    ∙ ap (λ (now : Settings). old.journal.told ++ (settled_as now (step now event) save commit).signals ∷ []) same.settings;
+      is.told ∙ ap (λ (told : List (List Signal)). told ++ (settled_as middle.settings (step middle.settings event) save commit).signals ∷ []) same.told
+      ∙ ap (λ (now : Settings). old.journal.told ++ (settled_as now (step now event) save commit).signals ∷ []) same.settings;
   signals_are = is.signals_are;
   reply_is = is.reply_is ∙ ap (λ (now : Settings). (settled_as now (step now event) save commit).reply) same.settings;
   first = is.first ∙ same.first;
@@ -99,8 +99,8 @@ in_force P true makes settings done before staged now save applied.Done none rea
     let to : IsCommittedTo ready.ready.after before now applied.Done = committed refl ready.ready before none ready.is in
     subst (λ (runtime : Runtime). P runtime now.installed) (runtime_is settings done save applied.Done refl (λ failed. not_both (skipped.1 (inr failed))))
     (subst (λ (rules : Ruleset). P done.after.runtime rules) (sym (to.done refl)) (made ready.ready.after ready.made ready.compiles)) where
-  not_both : applied.Done ≡ applied.Skipped → ⊥
-  not_both is = absurd cc
+      not_both : applied.Done ≡ applied.Skipped → ⊥
+      not_both is = absurd cc
 in_force P true makes settings done before staged now save applied.Failed none ready skipped committed idle needs was made =
     let to : IsCommittedTo ready.ready.after before now applied.Failed = committed refl ready.ready before none ready.is in
     subst (λ (runtime : Runtime). P runtime now.installed) (runtime_stays settings done save applied.Failed (inl refl))
@@ -109,9 +109,9 @@ in_force P true makes settings done before staged now save applied.Skipped none 
     let to : IsCommittedTo ready.ready.after before now applied.Skipped = committed refl ready.ready before none ready.is in
     subst (λ (runtime : Runtime). P runtime now.installed) (runtime_stays settings done save applied.Skipped (only_failed (skipped.0 refl)))
     (subst (λ (rules : Ruleset). P settings.runtime rules) (sym (to.installed.left (λ is. absurd cc))) was) where
-  only_failed : (true ≡ false) ⊎ (save ≡ applied.Failed) → (applied.Skipped ≡ applied.Failed) ⊎ (save ≡ applied.Failed)
-  only_failed (inl no_way) = absurd cc
-  only_failed (inr failed) = inr failed
+      only_failed : (true ≡ false) ⊎ (save ≡ applied.Failed) → (applied.Skipped ≡ applied.Failed) ⊎ (save ≡ applied.Failed)
+      only_failed (inl no_way) = absurd cc
+      only_failed (inr failed) = inr failed
 
 -- a text that is held afterwards says what is kept
 kept_on : (needed : Bool) (settings : Settings) (done : Answered Settings) (text : Option (List ℕ)) (before now : Kept) (save commit : Applied)
@@ -128,9 +128,9 @@ kept_on true settings done (Some written) before now applied.Skipped commit save
 kept_on true settings done (Some written) before now applied.Done commit saved text_for needs was =
     subst (λ (those : Option (Option (List ℕ))). IfSome those (λ held. Holds held (settled_as settings done applied.Done commit).settings.permanent)) (sym (saved.held written refl refl))
     (told before.held) where
-  told : (was_held : Option (Option (List ℕ))) → IfSome (option_map (λ was. Some written) was_held) (λ held. Holds held (settled_as settings done applied.Done commit).settings.permanent)
-  told None = tt
-  told (Some those) = subst (λ (config : Config). Says written config) (permanent_is settings done applied.Done commit (λ is. absurd cc)) (inr text_for)
+      told : (was_held : Option (Option (List ℕ))) → IfSome (option_map (λ was. Some written) was_held) (λ held. Holds held (settled_as settings done applied.Done commit).settings.permanent)
+      told None = tt
+      told (Some those) = subst (λ (config : Config). Says written config) (permanent_is settings done applied.Done commit (λ is. absurd cc)) (inr text_for)
 kept_on false settings done None before now applied.Done commit saved text_for needs was = absurd (let is : applied.Done ≡ applied.Skipped = saved.skipped.1 refl in cc)
 kept_on false settings done None before now applied.Skipped commit saved text_for needs was =
     subst (λ (those : Option (Option (List ℕ))). IfSome those (λ held. Holds held (settled_as settings done applied.Skipped commit).settings.permanent)) (sym (saved.kept.left (λ is. absurd cc)))
@@ -146,42 +146,42 @@ sound_again {C = C} kernel kept makes old new middle staged event text needs_sav
     let save : Applied = at.carried.save in
     let commit : Applied = at.carried.commit in
     let entered : IsEntered old.history new.history event from save commit place signals reply =
-      entered_over old.history middle new.history event from save commit place signals reply at.same at.carried.entered in
+    entered_over old.history middle new.history event from save commit place signals reply at.same at.carried.entered in
     let installed : IsInstalledAs (kernel old.backend) (kernel new.backend) commit =
-      installed_as needs_commit (makes old.compiler) done.after.runtime (kernel old.backend) staged (kernel new.backend) save commit at.sound.staged at.ready_for at.carried.skipped at.carried.committed at.carried.idle in
+    installed_as needs_commit (makes old.compiler) done.after.runtime (kernel old.backend) staged (kernel new.backend) save commit at.sound.staged at.ready_for at.carried.skipped at.carried.committed at.carried.idle in
     let entry : Entry = entry_of old.history.journal.entries event save commit in
     let longer : length new.history.journal.entries ≡ length old.history.journal.entries + 1 = ap length entered.entries ∙ length-append old.history.journal.entries (entry ∷ []) in
     record {
       history = at.history;
       made =
-        subst (λ (compiler : C). makes compiler new.history.settings.runtime (kernel new.backend).installed) (sym at.compiler_is)
-        (subst (λ (settings : Settings). makes old.compiler settings.runtime (kernel new.backend).installed) (sym entered.settings)
-        (in_force (makes old.compiler) needs_commit (makes old.compiler) old.history.settings done (kernel old.backend) staged (kernel new.backend) save commit
+          subst (λ (compiler : C). makes compiler new.history.settings.runtime (kernel new.backend).installed) (sym at.compiler_is)
+          (subst (λ (settings : Settings). makes old.compiler settings.runtime (kernel new.backend).installed) (sym entered.settings)
+          (in_force (makes old.compiler) needs_commit (makes old.compiler) old.history.settings done (kernel old.backend) staged (kernel new.backend) save commit
           at.sound.staged at.ready_for at.carried.skipped at.carried.committed at.carried.idle at.commit_needed at.sound.made (λ rules is_made compiles. is_made)));
       compiles =
-        subst (λ (settings : Settings). Compiles (kernel new.backend).installed (settings.runtime)) (sym entered.settings)
-        (in_force (λ runtime rules. Compiles rules runtime) needs_commit (makes old.compiler) old.history.settings done (kernel old.backend) staged (kernel new.backend) save commit
+          subst (λ (settings : Settings). Compiles (kernel new.backend).installed (settings.runtime)) (sym entered.settings)
+          (in_force (λ runtime rules. Compiles rules runtime) needs_commit (makes old.compiler) old.history.settings done (kernel old.backend) staged (kernel new.backend) save commit
           at.sound.staged at.ready_for at.carried.skipped at.carried.committed at.carried.idle at.commit_needed at.sound.compiles (λ rules is_made compiles. compiles));
       staged = installed.staged;
       text =
-        subst (λ (settings : Settings). IfSome (kept new.keeper).held (λ held. Holds held settings.permanent)) (sym entered.settings)
-        (kept_on needs_save old.history.settings done text (kept old.keeper) (kept new.keeper) save commit at.carried.saved at.text_for at.save_needed at.sound.text);
+          subst (λ (settings : Settings). IfSome (kept new.keeper).held (λ held. Holds held settings.permanent)) (sym entered.settings)
+          (kept_on needs_save old.history.settings done text (kept old.keeper) (kept new.keeper) save commit at.carried.saved at.text_for at.save_needed at.sound.text);
       commits_failed =
-        subst (λ (entries : List Entry). Counted new.backend_faults (failures (λ one. one.commit) entries) (kernel new.backend).faults) (sym entered.entries)
-        (subst (λ (count : ℕ). Counted new.backend_faults count (kernel new.backend).faults) (sym (failures_behind (λ one. one.commit) old.history.journal.entries entry))
-        (subst (λ (first : ℕ). Counted first (failures (λ one. one.commit) old.history.journal.entries + failed commit) (kernel new.backend).faults) (sym at.backend_faults_are)
-        (counted_on old.backend_faults (failures (λ one. one.commit) old.history.journal.entries) (kernel old.backend).faults (kernel new.backend).faults commit at.sound.commits_failed installed.blamed installed.blameless)));
+          subst (λ (entries : List Entry). Counted new.backend_faults (failures (λ one. one.commit) entries) (kernel new.backend).faults) (sym entered.entries)
+          (subst (λ (count : ℕ). Counted new.backend_faults count (kernel new.backend).faults) (sym (failures_behind (λ one. one.commit) old.history.journal.entries entry))
+          (subst (λ (first : ℕ). Counted first (failures (λ one. one.commit) old.history.journal.entries + failed commit) (kernel new.backend).faults) (sym at.backend_faults_are)
+          (counted_on old.backend_faults (failures (λ one. one.commit) old.history.journal.entries) (kernel old.backend).faults (kernel new.backend).faults commit at.sound.commits_failed installed.blamed installed.blameless)));
       saves_failed =
-        subst (λ (entries : List Entry). Counted new.keeper_faults (failures (λ one. one.save) entries) (kept new.keeper).faults) (sym entered.entries)
-        (subst (λ (count : ℕ). Counted new.keeper_faults count (kept new.keeper).faults) (sym (failures_behind (λ one. one.save) old.history.journal.entries entry))
-        (subst (λ (first : ℕ). Counted first (failures (λ one. one.save) old.history.journal.entries + failed save) (kept new.keeper).faults) (sym at.keeper_faults_are)
-        (counted_on old.keeper_faults (failures (λ one. one.save) old.history.journal.entries) (kept old.keeper).faults (kept new.keeper).faults save at.sound.saves_failed at.carried.saved.kept.blamed at.carried.saved.kept.blameless)));
+          subst (λ (entries : List Entry). Counted new.keeper_faults (failures (λ one. one.save) entries) (kept new.keeper).faults) (sym entered.entries)
+          (subst (λ (count : ℕ). Counted new.keeper_faults count (kept new.keeper).faults) (sym (failures_behind (λ one. one.save) old.history.journal.entries entry))
+          (subst (λ (first : ℕ). Counted first (failures (λ one. one.save) old.history.journal.entries + failed save) (kept new.keeper).faults) (sym at.keeper_faults_are)
+          (counted_on old.keeper_faults (failures (λ one. one.save) old.history.journal.entries) (kept old.keeper).faults (kept new.keeper).faults save at.sound.saves_failed at.carried.saved.kept.blamed at.carried.saved.kept.blameless)));
       asked =
-        subst (λ (count : ℕ). (kernel new.backend).asked ≤ most_before + 1 + count) (sym longer)
-        (tried_at_most (kernel old.backend).asked (kernel new.backend).asked (most_before + 1) (length old.history.journal.entries) commit at.sound.asked installed.asked);
+          subst (λ (count : ℕ). (kernel new.backend).asked ≤ most_before + 1 + count) (sym longer)
+          (tried_at_most (kernel old.backend).asked (kernel new.backend).asked (most_before + 1) (length old.history.journal.entries) commit at.sound.asked installed.asked);
       calls =
-        subst (λ (count : ℕ). (kept new.keeper).calls ≤ most_before + 1 + count) (sym longer)
-        (tried_at_most (kept old.keeper).calls (kept new.keeper).calls (most_before + 1) (length old.history.journal.entries) save at.sound.calls at.carried.saved.kept.calls);
+          subst (λ (count : ℕ). (kept new.keeper).calls ≤ most_before + 1 + count) (sym longer)
+          (tried_at_most (kept old.keeper).calls (kept new.keeper).calls (most_before + 1) (length old.history.journal.entries) save at.sound.calls at.carried.saved.kept.calls);
     }
 
 pub handled_as : {B K C : Type 0} (kernel : B → Kernel) (kept : K → Kept) (makes : C → Runtime → Ruleset → Type 0) (old new : Served B K C) (middle : Recorded) (staged : Kernel)
@@ -194,7 +194,7 @@ handled_as kernel kept makes old new middle staged event text needs_save needs_c
   entered = entered_over old.history middle new.history event from at.carried.save at.carried.commit place signals reply at.same at.carried.entered;
   saves = at.carried.saved.kept;
   commits =
-    installed_as needs_commit (makes old.compiler) (step old.history.settings event).after.runtime (kernel old.backend) staged (kernel new.backend) at.carried.save at.carried.commit
+      installed_as needs_commit (makes old.compiler) (step old.history.settings event).after.runtime (kernel old.backend) staged (kernel new.backend) at.carried.save at.carried.commit
       at.sound.staged at.ready_for at.carried.skipped at.carried.committed at.carried.idle;
   compiler_is = at.compiler_is;
   backend_faults_are = at.backend_faults_are;

@@ -1,5 +1,5 @@
 -- What an event asks of the keeper of the permanent settings and of the kernel, and what they make of it (this project's own).
-use Rattle.std.specs.Prelude.{◌≡◌, ◌≢◌, ◌↔◌, ◌⊎◌, ℕ, ◌+◌, List, length, Bool, true, false, Option, None, Some, IfSome}
+use Rattle.std.specs.Prelude.{◌≡◌, ◌≢◌, ◌↔◌, ◌⊎◌, ℕ, ◌+◌, List, Bool, true, false, Option, None, Some, IfSome}
 use Rattle.std.specs.List.{Contains}
 use Rattle.std.specs.Option.{option_map}
 use Rattle.fw_base.specs.Causes.{Rose}

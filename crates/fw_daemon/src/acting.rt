@@ -149,7 +149,7 @@ pub fn carry_out<B: Backend, K: Keeper>(
     ensures { (from : ℕ) → from ≤ length history.old.journal.entries
         → IsPlanned history.old event from prepared.plan.proposal prepared.plan.told prepared.plan.earlier
         → IsCarriedOut history.old history.new (B.kernel backend.old) (B.kernel backend.new) (K.kept keeper.old) (K.kept keeper.new) event (option_map (λ bytes. bytes.items) prepared.text)
-          prepared.plan.proposal.needs_commit from result.place result.signals result.reply }
+        prepared.plan.proposal.needs_commit from result.place result.signals result.reply }
 {
     let Prepared { plan, text } = prepared;
     let needs_commit = plan.proposal.needs_commit;

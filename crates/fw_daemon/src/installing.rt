@@ -17,7 +17,12 @@ use std::alloc::Global;
 /// Stages the ruleset of the settings in force, in the place of whatever is installed.
 ///
 /// Refuses for want of memory alone; nothing has changed then.
-pub fn stage<B: Backend, C: Compiler>(alloc: Global, backend: &mut B, compiler: &C, runtime: &Runtime) -> Result<(), Memory>
+pub fn stage<B: Backend, C: Compiler>(
+    alloc: Global,
+    backend: &mut B,
+    compiler: &C,
+    runtime: &Runtime,
+) -> Result<(), Memory>
     requires { IsValid runtime.now.config }
     ensures ready { OnOk result (IsReady (C.makes compiler.now) runtime.now (B.kernel backend.old) (B.kernel backend.new)) }
     ensures memory { OnErr result (B.kernel backend.new ≡ B.kernel backend.old) }
@@ -29,7 +34,13 @@ pub fn stage<B: Backend, C: Compiler>(alloc: Global, backend: &mut B, compiler: 
 }
 
 /// The same where a commit is needed, and else nothing.
-pub fn stage_for<B: Backend, C: Compiler>(alloc: Global, needed: bool, backend: &mut B, compiler: &C, runtime: &Runtime) -> Result<(), Memory>
+pub fn stage_for<B: Backend, C: Compiler>(
+    alloc: Global,
+    needed: bool,
+    backend: &mut B,
+    compiler: &C,
+    runtime: &Runtime,
+) -> Result<(), Memory>
     requires { IsValid runtime.now.config }
     ensures idle { needed ≡ false → IsOk result }
     ensures ready { OnOk result (IsReadyFor needed (C.makes compiler.now) runtime.now (B.kernel backend.old) (B.kernel backend.new)) }

@@ -98,7 +98,9 @@ impl History {
         ensures settings { result.1 ≡ self.settings }
     {
         let History {
-            settings, journal, ..
+            settings,
+            journal,
+            ..
         } = self;
         (journal.into_entries(), settings)
     }

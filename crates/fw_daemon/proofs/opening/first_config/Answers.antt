@@ -1,4 +1,4 @@
-use Rattle.std.proofs.Common.{ℕ, List, Option, Some, ap, sym, ◌∙◌, option_map}
+use Rattle.std.proofs.Common.{ℕ, List, Some, ap, sym, ◌∙◌, option_map}
 use Rattle.fw_daemon.proofs.Reading.{held_says}
 use Rattle.fw_daemon.proofs.opening.first_config.Goals as goal
 
