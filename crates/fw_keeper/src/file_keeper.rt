@@ -48,6 +48,10 @@ impl<R: Files + AllocGlobal + Drop> FileKeeper<R> {
 impl<R: Files + AllocGlobal + Drop> Keeper for FileKeeper<R> {
     ghost kept = { λ k. k };
 
+    fn faults(&self) -> u64 {
+        self.faults
+    }
+
     fn load(&mut self, _alloc: Global) -> Result<Option<Vec<u8>>, KeepError> {
         self.calls += 1;
         let loaded = load_file(&self.runtime, self.path.as_str());

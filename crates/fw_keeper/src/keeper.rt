@@ -34,6 +34,10 @@ pub trait Keeper {
     /// What is seen of it.
     ghost kept: { Self → Kept };
 
+    /// How many faults it has counted, or 2^64 - 1 where these are more.
+    fn faults(&self) -> u64
+        ensures { result ≡ (kept self.now).faults };
+
     /// The text that is held; None where there is none.
     ///
     /// It stays held, whatever is answered. Refuses Failed where the outside failed, and Memory.

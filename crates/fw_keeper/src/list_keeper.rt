@@ -52,6 +52,10 @@ impl ListKeeper {
 impl Keeper for ListKeeper {
     ghost kept = { λ k. k };
 
+    fn faults(&self) -> u64 {
+        self.faults
+    }
+
     fn load(&mut self, alloc: Global) -> Result<Option<Vec<u8>>, KeepError> {
         self.calls += 1;
         if self.failing.contains(&self.calls) {

@@ -1,6 +1,6 @@
 -- What an event is answered, which signals it gives and what it makes of the settings (firewalld.dbus(5)). Sessions, the time and links
 -- are this project's own.
-use Rattle.std.specs.Prelude.{◌≡◌, ℕ, Bool, true, false, IsOk, Result}
+use Rattle.std.specs.Prelude.{◌≡◌, ℕ, [], Bool, true, false, IsOk, Result}
 use Rattle.fw_act.specs.Acts.{Answered, replied}
 use Rattle.fw_calls.specs.declared.call.Call.{Call}
 use Rattle.fw_calls.specs.declared.call.Call.TheVariants as call
@@ -15,6 +15,7 @@ use Rattle.fw_machine.specs.Roots.{root_asks, root_called, root_takes_none}
 use Rattle.fw_machine.specs.Zones.{zone_asks, zone_called, zone_takes_none}
 use Rattle.fw_ipset_members.specs.Members.{asks as ipset_asks, ipset_member}
 use Rattle.fw_proposals.specs.Proposals.{or_refused}
+use Rattle.fw_settings.specs.declared.proposal.Proposal.{Proposal}
 use Rattle.fw_settings.specs.declared.settings.Settings.{Settings}
 use Rattle.fw_time_links.specs.Linking.{linked}
 use Rattle.fw_time_links.specs.Ticking.{ticked}
@@ -62,3 +63,9 @@ pub data IsFree (settings : Settings) : Event → Type 0 where
   opens : IsFree settings event.Open
   asks_flag : (session : ℕ) (asked : Call) → takes_none asked ≡ true → IsOk (called settings asked) → IsFree settings (event.Call session asked)
   shuts : (session : ℕ) → IsFree settings (event.Shut session)
+
+-- Nobody is told of it, and nothing is to be saved or committed.
+pub record IsQuiet (proposal : Proposal) : Type 0 where
+  pub signals : proposal.signals ≡ []
+  pub save : proposal.needs_save ≡ false
+  pub commit : proposal.needs_commit ≡ false

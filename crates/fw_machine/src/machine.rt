@@ -3,7 +3,7 @@ ghost use Rattle.std.specs.Prelude.{◌≡◌, ◌≤◌, true, false, Result, I
 ghost use Rattle.fw_act.specs.Acts.{Answered, Stops, replied};
 ghost use Rattle.fw_calls.specs.declared.reply.Refusal.{Refusal};
 ghost use Rattle.fw_settings.specs.declared.settings.Settings.{Settings as SettingsValue};
-ghost use Rattle.fw_machine.specs.Machine.{IsFree, asks, called, step, takes_none};
+ghost use Rattle.fw_machine.specs.Machine.{IsFree, IsQuiet, asks, called, step, takes_none};
 ghost use Rattle.fw_proposals.specs.Proposals.{Proposes, or_refused};
 ghost use Rattle.fw_settings.specs.Valid.{last_time};
 ghost use Rattle.fw_time_links.specs.Linking.{linked};
@@ -24,12 +24,14 @@ use std::alloc::Global;
 ///
 /// A call that may not be carried out is answered with its refusal, and nothing is to be done. Refuses for want of memory alone, and
 /// never the beginning or the end of a session, or, where they aren't refused, `queryService`, `queryPort`, `queryProtocol`,
-/// `querySourcePort`, `queryMasquerade`, `queryInterface` and `queryPanicMode`. A call that only asks copies no settings.
+/// `querySourcePort`, `queryMasquerade`, `queryInterface` and `queryPanicMode`: of these nobody is told, and nothing is to be done. A call that only asks copies no
+/// settings.
 #[tactic(auto, unfolding(crate::specs::Machine::step))]
 pub fn step(alloc: Global, settings: &Settings, event: &Event) -> Result<Proposal, Memory>
     requires { settings.now.now ≤ last_time }
     ensures proposes { IfOk result (λ proposal. Proposes settings.entry.now (step settings.entry.now event.now) proposal) }
     ensures free { IsFree settings.entry.now event.now → IsOk result }
+    ensures quiet { IfOk result (λ proposal. IsFree settings.entry.now event.now → IsQuiet proposal) }
 {
     match event {
         Event::Open => Ok(reply(alloc, settings, Reply::Opened)),
@@ -42,7 +44,8 @@ pub fn step(alloc: Global, settings: &Settings, event: &Event) -> Result<Proposa
 
 /// A reply, and nothing is to be done.
 fn reply(alloc: Global, settings: &Settings, reply: Reply) -> Proposal
-    ensures { Proposes settings.entry.now (replied settings.entry.now reply) result }
+    ensures proposes { Proposes settings.entry.now (replied settings.entry.now reply) result }
+    ensures quiet { IsQuiet result }
 {
     propose_unchanged(settings, replied(alloc, reply))
 }
@@ -51,6 +54,7 @@ fn step_call(alloc: Global, settings: &Settings, call: &Call) -> Result<Proposal
     requires { settings.now.now ≤ last_time }
     ensures proposes { IfOk result (λ proposal. Proposes settings.entry.now (or_refused settings.entry.now (called settings.entry.now call.now)) proposal) }
     ensures free { takes_none call.now ≡ true → IsOk (called settings.entry.now call.now) → IsOk result }
+    ensures quiet { IfOk result (λ proposal. takes_none call.now ≡ true → IsOk (called settings.entry.now call.now) → IsQuiet proposal) }
 {
     match flag(settings, call) {
         Some(flag) => Ok(reply(alloc, settings, Reply::Bool(flag))),

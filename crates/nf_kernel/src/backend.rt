@@ -19,6 +19,10 @@ pub trait Backend {
     fn rules(&self) -> &Ruleset
         ensures { result.now ≡ (kernel self.now).installed };
 
+    /// How many faults it has counted, or 2^64 - 1 where these are more.
+    fn faults(&self) -> u64
+        ensures { result ≡ (kernel self.now).faults };
+
     /// Makes a transaction ready, in the place of one that was staged.
     ///
     /// Refuses for want of memory alone; all is then as before.

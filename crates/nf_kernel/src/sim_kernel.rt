@@ -61,6 +61,10 @@ impl Backend for SimKernel {
         &self.installed
     }
 
+    fn faults(&self) -> u64 {
+        self.faults
+    }
+
     fn stage(&mut self, alloc: Global, tx: &Tx) -> Result<(), Memory> {
         let commands = tx.commands.as_slice();
         if let Some(after) = applied(alloc, &self.installed, commands)? {

@@ -1,0 +1,4 @@
+pub mod Acting
+pub mod Daemons
+pub mod Opening
+pub mod Outside
