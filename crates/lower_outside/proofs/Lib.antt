@@ -1,5 +1,7 @@
 pub mod Alternatives
 pub mod Built
+pub mod Idle
+pub mod Lists
 pub mod Named
 pub mod Packets
 pub mod Sequences

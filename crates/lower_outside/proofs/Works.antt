@@ -7,9 +7,10 @@ use Rattle.fw_verdict.specs.Changes.Change.{log, mark, masquerade, translate}
 use Rattle.fw_verdict.specs.declared.sides.Side.{Side}
 use Rattle.fw_zone.specs.Lists.{IsIn}
 use Rattle.lower_outside.specs.Does.{Changes, Reach, moment_of, passing_of}
-use Rattle.lower_outside.specs.Names.{own_name}
+use Rattle.lower_outside.specs.Changing.{DoSteps}
+use Rattle.lower_outside.specs.Names.{block_name, own_name}
 use Rattle.lower_outside.specs.Stands.{StandAlone}
-use Rattle.lower_outside.specs.Steps.{CanBeMade, IsTold, statement_of}
+use Rattle.lower_outside.specs.Steps.{AreTold, CanBeMade, IsTold, statement_of}
 use Rattle.lower_outside.specs.Work.{Adds, AreBuilt, ChainReaches, HasOwn, HasStep, is_last, once_rules}
 use Rattle.lower_outside.specs.Work.HasStep.{alone, own}
 use Rattle.lower_outside.specs.declared.steps.Step.{Step}
@@ -17,6 +18,7 @@ use Rattle.lower_outside.proofs.Alternatives.{alone_changes, can_make, chain_cha
 use Rattle.lower_outside.proofs.Built.{built_both, built_leaves, built_nothing, built_own, leaves_change, leaves_once, stands_alone}
 use Rattle.lower_outside.proofs.Packets.{keep_both, keep_nothing, keep_one}
 use Rattle.lower_outside.proofs.Sequences.{both_reach, jump_is, jump_reaches, nothing_reached, through_append, through_one, whole}
+use Rattle.lower_outside.proofs.Told.{told_last}
 use Rattle.lower_zone.specs.Evaluates.{EachIsThere, Meeting}
 use Rattle.lower_zone.specs.Forms.{chain_named, each, jump_to}
 use Rattle.lower_zone.specs.Work.{one_holds_at}
@@ -166,3 +168,31 @@ stands_as config name items rules chains all added are =
     (subst (λ (list : List Rule). AreBuilt config 0 list chains) (sym added.new_rules_are)
     (subst (λ (list : List Chain). AreBuilt config 0 added.rules list) (sym added.new_chains_are) added.built))
     refl are
+
+pub does_steps : (config : Config) (of : Side) (block called : List ℕ) (items : List ChangeItem) (old_rules rules : List Rule) (old_chains chains all : List Chain)
+    → old_rules ≡ [] → old_chains ≡ []
+    → Adds config items old_rules rules old_chains chains
+    → called ≡ block_name of block
+    → all ≡ chains ++ chain_named called rules ∷ []
+    → DoSteps config of block items all
+does_steps config of block called items old_rules rules old_chains chains all no_rule no_chain added same are =
+    let from_none = subst (λ (start : List Rule). Adds config items start rules [] chains) no_rule
+        (subst (λ (start : List Chain). Adds config items old_rules rules start chains) no_chain added) in
+    let all_are = are ∙ ap (λ (one : List ℕ). chains ++ chain_named one rules ∷ []) same in
+    record {
+      changes = changes_as config (block_name of block) items rules chains all from_none all_are;
+      keep = added.keep;
+      stands = stands_as config (block_name of block) items rules chains all from_none all_are;
+    }
+
+-- one step more
+pub adds_more : (config : Config) (of : Side) (block : List ℕ) (steps : List Step) (step : Step) (items : List ChangeItem) (old_rules rules new_rules : List Rule) (old_chains chains new_chains : List Chain)
+    → ((before : List ChangeItem) → AreTold config steps before → Adds config before old_rules rules old_chains chains)
+    → HasStep of block step rules new_rules chains new_chains
+    → AreTold config (steps ++ step ∷ []) items
+    → Adds config items old_rules new_rules old_chains new_chains
+adds_more config of block steps step items old_rules rules new_rules old_chains chains new_chains so_far has are =
+    let last = told_last config steps step items are in
+    subst (λ (list : List ChangeItem). Adds config list old_rules new_rules old_chains new_chains) (sym last.items_are)
+    (adds_both config last.before (last.item ∷ []) old_rules rules new_rules old_chains chains new_chains (so_far last.before last.told)
+    (adds_step config of block step last.item rules new_rules chains new_chains last.is has))

@@ -1,5 +1,6 @@
 pub mod Changing
 pub mod Does
+pub mod Forms
 pub mod Laws
 pub mod Names
 pub mod Needed

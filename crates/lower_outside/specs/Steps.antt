@@ -54,3 +54,7 @@ Tell config items old new = (told : List ChangeItem) → AreTold config old told
 -- a change of the packets of a condition that are within a limit
 abbrev pub within : (Packet → Bool) → Option Limit → Change → ChangeItem
 within condition limit change = record { hits = λ packet. condition packet && passes limit packet; change = change }
+
+-- a change of all packets of a condition
+abbrev pub item_of : (Packet → Bool) → Change → ChangeItem
+item_of condition change = record { hits = condition; change = change }
