@@ -14,4 +14,5 @@ mod targets;
 
 pub use chains::{policy_chains, zone_chains};
 pub use laws::{blocks_are_apart, others_do_nothing};
+pub use names::{policy_chain_name, zone_chain_name};
 pub use needed::has_changes;

@@ -72,3 +72,23 @@ pub fn own_name(alloc: Global, side: Side, number: usize, block: &Text) -> Resul
     let string = format!(in alloc; "{word}own{number}_{block}")?;
     Ok(Text::from_string(string))
 }
+
+/// The name of the chain of a zone's settings on a side.
+///
+/// Refuses for want of memory alone.
+pub fn zone_chain_name(alloc: Global, side: Side, zone: &Text) -> Result<Text, Memory>
+    ensures { IfOk result (λ name. name ≡ block_name side (zone_block side zone.now)) }
+{
+    let block = zone_block(alloc, side, zone)?;
+    block_name(alloc, side, &block)
+}
+
+/// The name of the chain of a policy's settings on a side.
+///
+/// Refuses for want of memory alone.
+pub fn policy_chain_name(alloc: Global, side: Side, policy: &Text) -> Result<Text, Memory>
+    ensures { IfOk result (λ name. name ≡ block_name side (policy_block side policy.now)) }
+{
+    let block = policy_block(alloc, side, policy)?;
+    block_name(alloc, side, &block)
+}

@@ -1,0 +1,6 @@
+pub mod Blocks
+pub mod Chains
+pub mod Names
+pub mod Needed
+pub mod Rules
+pub mod Sides
