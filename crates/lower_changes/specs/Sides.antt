@@ -13,8 +13,8 @@ use Rattle.nf_rules.specs.declared.chain.Chain.{Chain}
 
 -- the settings of these zones and of all policies are as they can be written
 pub record IsWritten (config : Config) (zones : List Zone) : Type 0 where
-  pub zones : Each (λ (zone : Zone). AreWritten zone.rules) zones
-  pub policies : Each (λ (policy : Policy). AreWritten policy.rules) config.policies
+  pub of_zones : Each (λ (zone : Zone). AreWritten zone.rules) zones
+  pub of_policies : Each (λ (policy : Policy). AreWritten policy.rules) config.policies
 
 pub data IsSide (config : Config) (of : Side) (zones : List Zone) (chains : List Chain) : Type 0 where
   idle : chains ≡ [] → needed config of zones ≡ [] → IsSide config of zones chains

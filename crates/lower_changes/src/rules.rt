@@ -1,11 +1,12 @@
 //! The rules of the chains of zones: jumps to the chains of settings.
-ghost use Rattle.std.specs.Prelude.{◌≡◌, ◌++◌, ◌∷◌, [], IfOk, OnOk};
+ghost use Rattle.std.specs.Prelude.{◌≡◌, ◌++◌, ◌∷◌, [], IfOk, OnOk, codes};
 ghost use Rattle.std.specs.List.{flat_map};
 ghost use Rattle.fw_order.specs.Borrowed.{lent};
 ghost use Rattle.fw_verdict.specs.declared.sides.Side.TheVariants.{Leaving};
 ghost use Rattle.lower_changes.specs.Rules.{early, policy_jump, rules_at, zone_jump, zone_rules};
 
-use fw_base::{Memory, Seq, Text};
+use fw_addr::{Iface, read_iface};
+use fw_base::{Memory, Seq};
 use fw_model::{Config, Policy, Zone};
 use fw_verdict::{Side, Stage, policies_beside};
 use lower_outside::{has_changes, policy_chain_name, zone_chain_name};
@@ -87,11 +88,18 @@ pub fn zone_rules(
     Ok(rules)
 }
 
+/// The loopback interface.
+fn loopback() -> Iface
+    ensures { result ≡ codes "lo" }
+{
+    read_iface("lo").unwrap()
+}
+
 /// What is accepted as it is that leaves by the loopback interface.
 fn lo_rule(alloc: Global) -> Result<Rule, Memory>
     ensures { IfOk result (λ rule. rule ∷ [] ≡ early Leaving) }
 {
-    let test = Test::Out(Text::of(alloc, "lo")?);
+    let test = Test::Out(loopback());
     Ok(Rule {
         matches: one(alloc, Match { not: false, test })?,
         stmts: one(alloc, Stmt::Accept)?,
