@@ -1,2 +1,5 @@
+pub mod Doing
 pub mod Growing
+pub mod Passing
 pub mod There
+pub mod Working

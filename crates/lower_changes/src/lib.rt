@@ -4,9 +4,11 @@
 
 mod blocks;
 mod hook;
+mod laws;
 mod names;
 mod needed;
 mod rules;
 mod sides;
 
+pub use laws::{postrouting_changes, prerouting_changes, sides_work};
 pub use sides::side_chains;
