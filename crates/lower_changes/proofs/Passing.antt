@@ -238,7 +238,7 @@ prerouting config zones rules marks targets masks stand now name from is =
     (translated_is config between second.0 name still comes_on ∙ ap (translated config) (marked_is config (passing_of now) first.0 name from comes))
     (record {
       looked_at = other.looked_at;
-      meets = one.meets end (other.meets end (passed other.run));
+      meets = one.meets end (other.meets end (passed {last = other.behind} {now = end} other.run));
       packet = next_is_packet config side.Translated None second.0 between (side_keeps config side.Translated zones rules targets second.0 stand.translated among_on) between_is;
     })
 
@@ -254,6 +254,6 @@ postrouting config zones rules marks targets masks stand now name is =
     subst (λ (next : Passing). Passes rules (Some name) hook.Postrouting now next) (left_is config (passing_of now) to.0 name goes)
     (record {
       looked_at = one.looked_at;
-      meets = one.meets end (passed one.run);
+      meets = one.meets end (passed {last = one.behind} {now = end} one.run);
       packet = next_is_packet config side.Leaving (Some name) to.0 (passing_of now) (side_keeps config side.Leaving zones rules masks to.0 stand.leaving among) is;
     })

@@ -5,4 +5,5 @@ pub mod Names
 pub mod Needed
 pub mod Rules
 pub mod Sides
+pub mod Stands
 pub mod Works

@@ -26,20 +26,20 @@ use Rattle.nf_sound.specs.Sound.Path.{link, stays}
 use Rattle.nf_sound.specs.Targets.{rule_targets, targets}
 
 -- what holds of the items of two lists holds of those of both
-in_either : {A : Type 0} (P : A → Type 0) (one other : List A)
+pub in_either : {A : Type 0} (P : A → Type 0) (one other : List A)
     → ((item : A) → IsIn item one → P item) → ((item : A) → IsIn item other → P item)
     → (item : A) → IsIn item (one ++ other) → P item
 in_either P [] other first second item there = second item there
 in_either P (x ∷ one) other first second item (inl same) = first item (inl same)
 in_either P (x ∷ one) other first second item (inr there) = in_either P one other (λ it is. first it (inr is)) second item there
 
-targets_joined : (maps : List NfMap) (one other : List Rule) → rule_targets maps (one ++ other) ≡ rule_targets maps one ++ rule_targets maps other
+pub targets_joined : (maps : List NfMap) (one other : List Rule) → rule_targets maps (one ++ other) ≡ rule_targets maps one ++ rule_targets maps other
 targets_joined maps [] other = refl
 targets_joined maps (rule ∷ one) other =
     ap (λ (rest : List (List ℕ)). flat_map (targets maps) rule.stmts ++ rest) (targets_joined maps one other)
     ∙ sym (append_assoc (flat_map (targets maps) rule.stmts) (rule_targets maps one) (rule_targets maps other))
 
-names_in : (P : List ℕ → Type 0) (one other : List (List ℕ))
+pub names_in : (P : List ℕ → Type 0) (one other : List (List ℕ))
     → ((name : List ℕ) → IsNameIn name one → P name) → ((name : List ℕ) → IsNameIn name other → P name)
     → (name : List ℕ) → IsNameIn name (one ++ other) → P name
 names_in P [] other first second name there = second name there
