@@ -1,5 +1,5 @@
 -- What the rules of the chains of zones do, one after another.
-use Rattle.std.proofs.Common.{◌≡◌, ◌∙◌, ◌&&◌, ◌||◌, ℕ, inl, inr, Bool, true, false, List, [], ◌∷◌, ◌++◌, Option, None, Some, refl, sym, ap, subst, append_assoc}
+use Rattle.std.proofs.Common.{◌≡◌, ◌∙◌, ◌&&◌, ◌||◌, ℕ, inl, inr, Bool, true, false, List, [], ◌∷◌, ◌++◌, Option, Some, refl, sym, ap, subst}
 use Rattle.std.specs.Prelude.{if◌then◌else◌}
 use Rattle.std.specs.List.{filter, flat_map, list_any}
 use Rattle.std.proofs.lemmas.Bool.{and_parts}
@@ -7,8 +7,8 @@ use Rattle.fw_model.specs.declared.config.Config.{Config}
 use Rattle.fw_model.specs.declared.policy.Policy.{Policy}
 use Rattle.fw_model.specs.declared.zone.Zone.{Zone}
 use Rattle.fw_order.specs.Policies.{comes_before}
-use Rattle.fw_verdict.specs.Changes.{ChangeItem, Reached, and_on, through}
-use Rattle.fw_verdict.specs.Policies.{acts_at, names, stands_for}
+use Rattle.fw_verdict.specs.Changes.{ChangeItem, Reached, through}
+use Rattle.fw_verdict.specs.Policies.{acts_at, stands_for}
 use Rattle.fw_verdict.specs.Policies.End.{in_zone}
 use Rattle.fw_verdict.specs.Sides.{all_items, is_beside, policies_beside, policy_items, side_items, zone_items}
 use Rattle.fw_verdict.specs.declared.policies.Stage.{Stage}
@@ -24,7 +24,7 @@ use Rattle.lower_changes.specs.Needed.{ends_of, is_needed, needed, told_policy, 
 use Rattle.lower_changes.specs.Rules.{jump_where, policy_jump, rules_at, zone_jump, zone_rules}
 use Rattle.lower_changes.proofs.There.{block_in}
 use Rattle.lower_dispatch.proofs.Every.{Every, every_in_order, every_kept}
-use Rattle.lower_outside.specs.Does.{JumpReaches, KeepPackets, Reach, moment_of, passing_of}
+use Rattle.lower_outside.specs.Does.{KeepPackets, Reach, moment_of, passing_of}
 use Rattle.lower_outside.specs.Names.{block_name, policy_block, zone_block}
 use Rattle.lower_outside.specs.Needed.{has_changes}
 use Rattle.lower_outside.proofs.Idle.{do_nothing}

@@ -12,7 +12,6 @@ use Rattle.fw_model.specs.declared.config.Config.{Config}
 use Rattle.fw_model.specs.declared.outcome.Verdict.TheVariants.{Accept}
 use Rattle.fw_model.specs.declared.packet.Origin.{Origin}
 use Rattle.fw_model.specs.declared.packet.Origin.TheVariants as origin
-use Rattle.fw_model.specs.declared.packet.Packet.{Packet}
 use Rattle.fw_model.specs.declared.zone.Zone.{Zone}
 use Rattle.fw_verdict.specs.Changes.{Change, ChangeItem, Passing, Reached, and_on, changed, ends, going_on, reached_by, through}
 use Rattle.fw_verdict.specs.Changes.Change.{log, mark, masquerade, translate}
@@ -22,7 +21,7 @@ use Rattle.fw_verdict.specs.declared.sides.Side.{Side}
 use Rattle.fw_verdict.specs.declared.sides.Side.TheVariants as side
 use Rattle.fw_zone.specs.Lists.{IsIn}
 use Rattle.lower_changes.specs.Chains.{base_chain, direction_of}
-use Rattle.lower_changes.specs.Hooks.{Passes, PostroutingChanges, PreroutingChanges, RunAt, SidesStand}
+use Rattle.lower_changes.specs.Hooks.{Passes, PostroutingChanges, PreroutingChanges, RunAt}
 use Rattle.lower_changes.specs.Works.{SideWorks, bases_of, keeps_own, side_reached}
 use Rattle.lower_changes.specs.Works.SideWorks.{full, idle}
 use Rattle.lower_dispatch.specs.Dispatch.{zone_on}
@@ -223,7 +222,7 @@ prerouting config zones rules marks targets masks stand now name from is =
     let comes : ingress config now.packet ≡ Some first.0 = ap (ingress_from config now.packet) from ∙ first.1 in
     let among = stand.used first.0 (packets_use config direction.Ingress None now.packet first.0 comes) in
     let one = side_meets config zones rules None hook.Prerouting None (bases_of targets) now first.0 (record { sets = stand.sets; packet = is }) among
-        side.Marked marks comes stand.marked stand.at_prerouting in
+    side.Marked marks comes stand.marked stand.at_prerouting in
     let between = next_by config side.Marked None first.0 (passing_of now) in
     let between_is = next_is_packet config side.Marked None first.0 (passing_of now) (side_keeps config side.Marked zones rules marks first.0 stand.marked among) is in
     let still : between.packet.origin ≡ origin.Link name = through_origin (all_items config side.Marked (Some first.0)) (passing_of now) ∙ from in
@@ -231,8 +230,8 @@ prerouting config zones rules marks targets masks stand now name from is =
     let comes_on : ingress config between.packet ≡ Some second.0 = ap (ingress_from config between.packet) still ∙ second.1 in
     let among_on = stand.used second.0 (packets_use config direction.Ingress None between.packet second.0 comes_on) in
     let other = side_meets config zones rules None hook.Prerouting one.behind [] (moment_of between one.looked_at) second.0 (record { sets = stand.sets; packet = between_is }) among_on
-        side.Translated targets comes_on stand.translated
-        (subst (λ (list : List Chain). RunAt rules hook.Prerouting one.behind list) (sym (append-nil (bases_of targets))) one.run) in
+    side.Translated targets comes_on stand.translated
+    (subst (λ (list : List Chain). RunAt rules hook.Prerouting one.behind list) (sym (append-nil (bases_of targets))) one.run) in
     let end = moment_of (next_by config side.Translated None second.0 between) other.looked_at in
     subst (λ (next : Passing). Passes rules None hook.Prerouting now next)
     (translated_is config between second.0 name still comes_on ∙ ap (translated config) (marked_is config (passing_of now) first.0 name from comes))
@@ -248,8 +247,8 @@ postrouting config zones rules marks targets masks stand now name is =
     let goes : egress config now.packet name ≡ Some to.0 = to.1 in
     let among = stand.used to.0 (packets_use config direction.Egress (Some name) now.packet to.0 goes) in
     let one = side_meets config zones rules (Some name) hook.Postrouting None [] now to.0 (record { sets = stand.sets; packet = is }) among
-        side.Leaving masks goes stand.leaving
-        (subst (λ (list : List Chain). RunAt rules hook.Postrouting None list) (sym (append-nil (bases_of masks))) stand.at_postrouting) in
+    side.Leaving masks goes stand.leaving
+    (subst (λ (list : List Chain). RunAt rules hook.Postrouting None list) (sym (append-nil (bases_of masks))) stand.at_postrouting) in
     let end = moment_of (next_by config side.Leaving (Some name) to.0 (passing_of now)) one.looked_at in
     subst (λ (next : Passing). Passes rules (Some name) hook.Postrouting now next) (left_is config (passing_of now) to.0 name goes)
     (record {

@@ -1,12 +1,11 @@
 -- What the rules of the chains of a side name is there, and no path from them has more than three links.
-use Rattle.std.proofs.Common.{◌≡◌, ◌∙◌, ◌≤◌, ◌&&◌, ℕ, suc, inl, inr, Bool, true, false, List, [], ◌∷◌, ◌++◌, map, Option, None, Some, refl, sym, ap, subst, arith, ⊎_elim}
-use Rattle.std.specs.Prelude.{IsTrue, if◌then◌else◌, is_some}
+use Rattle.std.proofs.Common.{◌≡◌, ◌∙◌, ◌≤◌, ◌&&◌, ℕ, suc, inl, inr, Bool, true, false, List, [], ◌∷◌, ◌++◌, map, Some, refl, sym, ap, subst, arith, ⊎_elim}
+use Rattle.std.specs.Prelude.{is_some}
 use Rattle.std.specs.List.{flat_map, list_all}
 use Rattle.fw_model.specs.declared.config.Config.{Config}
 use Rattle.fw_model.specs.declared.policy.Policy.{Policy}
 use Rattle.fw_model.specs.declared.zone.Zone.{Zone}
 use Rattle.fw_verdict.specs.Sides.{policies_beside}
-use Rattle.fw_verdict.specs.declared.policies.Stage.{Stage}
 use Rattle.fw_verdict.specs.declared.policies.Stage.TheVariants as stage
 use Rattle.fw_verdict.specs.declared.sides.Side.{Side}
 use Rattle.fw_verdict.specs.declared.sides.Side.TheVariants as side
@@ -19,20 +18,18 @@ use Rattle.lower_changes.specs.Chains.{IsHook, base_chain, zone_chain}
 use Rattle.lower_changes.specs.Names.{base_name, start}
 use Rattle.lower_changes.specs.Needed.{needed}
 use Rattle.lower_changes.specs.Rules.{early, jump_where, policy_jump, rules_at, zone_jump, zone_rules}
-use Rattle.lower_changes.specs.Sides.{IsSide}
 use Rattle.lower_changes.specs.Sides.IsSide.{full, idle}
 use Rattle.lower_changes.specs.Stands.{SidesHold, StandIn}
 use Rattle.lower_changes.proofs.Doing.{policy_told, zone_told}
 use Rattle.lower_changes.proofs.There.{block_in, of_block}
-use Rattle.lower_dispatch.specs.Uses.{EachHasChain, IsChainName, IsUsed}
+use Rattle.lower_dispatch.specs.Uses.{EachHasChain, IsUsed}
 use Rattle.lower_match.specs.Stands.{EachHasSet}
 use Rattle.lower_outside.specs.Names.{block_name, policy_block, zone_block}
 use Rattle.lower_outside.specs.Needed.{has_changes}
 use Rattle.lower_zone.specs.Evaluates.{EachIsThere}
-use Rattle.lower_zone.specs.Forms.{chain_named, jump_to}
+use Rattle.lower_zone.specs.Forms.{jump_to}
 use Rattle.lower_zone.proofs.Built.{all_joined, both}
 use Rattle.nf_rules.specs.declared.chain.Chain.{Chain}
-use Rattle.nf_rules.specs.declared.map.NfMap.{NfMap}
 use Rattle.nf_rules.specs.declared.rule.Rule.{Rule}
 use Rattle.nf_rules.specs.declared.ruleset.Ruleset.{Ruleset}
 use Rattle.nf_sound.specs.Names.{chain_of}

@@ -1,5 +1,5 @@
 -- What is in blocks.
-use Rattle.std.proofs.Common.{◌≡◌, ◌⊎◌, inl, inr, List, [], ◌∷◌, ◌++◌, refl, sym, subst, ⊎_elim}
+use Rattle.std.proofs.Common.{◌≡◌, ◌⊎◌, inl, inr, List, [], ◌∷◌, ◌++◌, refl, subst}
 use Rattle.fw_model.specs.declared.config.Config.{Config}
 use Rattle.fw_verdict.specs.declared.sides.Side.{Side}
 use Rattle.fw_zone.specs.Lists.{IsIn}

@@ -1,14 +1,14 @@
 -- The way of a packet through the chains of a side: the base chain, the bindings of zones, and the chain of its zone.
-use Rattle.std.proofs.Common.{◌≡◌, ◌∙◌, ◌&&◌, ℕ, suc, inl, inr, Bool, true, false, List, [], ◌∷◌, ◌++◌, map, Option, None, Some, refl, sym, ap, subst, append-nil, append_assoc}
+use Rattle.std.proofs.Common.{◌≡◌, ◌∙◌, ◌&&◌, ℕ, suc, inl, inr, Bool, true, false, List, [], ◌∷◌, ◌++◌, map, Option, None, Some, refl, sym, ap, subst, append-nil}
 use Rattle.std.specs.Prelude.{if◌then◌else◌, codes, is_some}
-use Rattle.std.specs.List.{filter, flat_map, list_all}
+use Rattle.std.specs.List.{flat_map}
 use Rattle.std.specs.Str.{bytes_eq}
 use Rattle.fw_model.specs.declared.config.Config.{Config}
 use Rattle.fw_model.specs.declared.outcome.Verdict.TheVariants.{Accept}
 use Rattle.fw_model.specs.declared.policy.Policy.{Policy}
 use Rattle.fw_model.specs.declared.zone.Zone.{Zone}
 use Rattle.fw_verdict.specs.Changes.{ChangeItem, Passing, Reached, going_on, through}
-use Rattle.fw_verdict.specs.Sides.{all_items, policies_beside, policy_items, side_items, zone_items}
+use Rattle.fw_verdict.specs.Sides.{all_items, policies_beside, policy_items, side_items}
 use Rattle.fw_verdict.specs.declared.policies.Stage.{Stage}
 use Rattle.fw_verdict.specs.declared.policies.Stage.TheVariants as stage
 use Rattle.fw_verdict.specs.declared.sides.Side.{Side}
@@ -22,22 +22,19 @@ use Rattle.lower_changes.specs.Chains.{IsHook, base_chain, direction_of, zone_ch
 use Rattle.lower_changes.specs.Names.{start}
 use Rattle.lower_changes.specs.Needed.{needed}
 use Rattle.lower_changes.specs.Rules.{early, zone_rules}
-use Rattle.lower_changes.specs.Sides.{IsSide}
 use Rattle.lower_changes.specs.Sides.IsSide.{full as full_side, idle as idle_side}
 use Rattle.lower_changes.specs.Works.{LetOn, SideWorks, SidesWork, bases_of, keeps_own, side_reached}
 use Rattle.lower_changes.specs.Works.SideWorks.{full, idle}
 use Rattle.lower_changes.proofs.Doing.{Do, do_all, policy_told, zone_told}
 use Rattle.lower_changes.proofs.There.{of_block}
 use Rattle.lower_dispatch.specs.Dispatch.{LeadTo, at_count, zone_on}
-use Rattle.lower_dispatch.specs.declared.direction.Direction.{Direction}
 use Rattle.lower_outside.specs.Does.{FromThere, Reach, moment_of, passing_of}
 use Rattle.lower_outside.specs.Needed.{has_changes}
 use Rattle.lower_outside.proofs.Idle.{do_nothing}
 use Rattle.lower_zone.specs.Evaluates.{EachIsThere, Meeting}
-use Rattle.lower_zone.specs.Forms.{chain_named}
 use Rattle.nf_chains.specs.Evaluation.{Ends}
 use Rattle.nf_chains.specs.Evaluation.Ends.{accepts, ends, goes, looks, looks_past}
-use Rattle.nf_chains.specs.Moments.{Moment, looking}
+use Rattle.nf_chains.specs.Moments.{Moment}
 use Rattle.nf_rules.specs.declared.chain.Chain.{Chain}
 use Rattle.nf_rules.specs.declared.rule.Rule.{Rule}
 use Rattle.nf_rules.specs.declared.ruleset.Ruleset.{Ruleset}

@@ -48,10 +48,10 @@ pub data SideWorks (config : Config) (of : Side) (zones : List Zone) (table : Ru
   full : (rules : List Rule)
       → bases_of chains ≡ base_chain of rules ∷ []
       → ((leaving : Option (List ℕ)) (now : Moment) (zone : Zone)
-          → Meeting config table now
-          → zone_on (direction_of of) config leaving now.packet ≡ Some zone
-          → IsIn zone zones
-          → LetOn table leaving rules now (side_reached config of leaving zone (passing_of now)).now)
+      → Meeting config table now
+      → zone_on (direction_of of) config leaving now.packet ≡ Some zone
+      → IsIn zone zones
+      → LetOn table leaving rules now (side_reached config of leaving zone (passing_of now)).now)
       → ((zone : Zone) → IsIn zone zones → KeepPackets (all_items config of (Some zone)))
       → SideWorks config of zones table chains
 

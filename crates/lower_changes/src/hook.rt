@@ -17,7 +17,9 @@ use std::alloc::Global;
 /// The priorities of the base chains among those of their hooks: marks and translations of the destination come before the filter, and
 /// those of the source behind it.
 const MARK_PRIORITY: i32 = -140;
+
 const DESTINATION_PRIORITY: i32 = -90;
+
 const SOURCE_PRIORITY: i32 = 110;
 
 fn base_of(side: Side) -> Base

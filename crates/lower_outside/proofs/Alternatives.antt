@@ -1,13 +1,13 @@
 -- What the rules for alternatives do.
-use Rattle.std.proofs.Common.{◌≡◌, ◌∙◌, ◌≤◌, ℕ, suc, Bool, true, false, ◌||◌, List, [], ◌∷◌, ◌++◌, length, Option, refl, sym, ap, subst, arith}
+use Rattle.std.proofs.Common.{◌≡◌, ◌≤◌, ℕ, suc, Bool, true, false, ◌||◌, List, [], ◌∷◌, ◌++◌, length, Option, refl, sym, subst, arith}
 use Rattle.std.specs.Prelude.{if◌then◌else◌}
-use Rattle.std.specs.List.{list_all, list_any}
+use Rattle.std.specs.List.{list_all}
 use Rattle.fw_model.specs.declared.outcome.Verdict.{Verdict}
 use Rattle.fw_model.specs.declared.outcome.Verdict.TheVariants.{Accept}
 use Rattle.fw_model.specs.declared.packet.Packet.{Packet}
 use Rattle.fw_verdict.specs.Changes.{Change, Passing, Reached, changed, ends, going_on}
 use Rattle.fw_verdict.specs.Changes.Change.{log, mark, masquerade, translate}
-use Rattle.lower_outside.specs.Does.{FromThere, Onward, Reach, moment_of, passing_of}
+use Rattle.lower_outside.specs.Does.{FromThere, Reach, moment_of, passing_of}
 use Rattle.lower_outside.specs.Steps.{statement_of}
 use Rattle.lower_outside.specs.Work.{ChainReaches, once_rules}
 use Rattle.lower_outside.proofs.Sequences.{nothing_reached}

@@ -1,20 +1,16 @@
 -- Settings that have nothing on a side do nothing there.
-use Rattle.std.proofs.Common.{◌≡◌, ◌∙◌, ◌==◌, ◌||◌, not, Bool, true, false, List, [], ◌∷◌, ◌++◌, length, map, refl, ap, arith}
-use Rattle.std.specs.Prelude.{if◌then◌else◌}
-use Rattle.std.specs.List.{filter, flat_map, list_any}
+use Rattle.std.proofs.Common.{◌≡◌, ◌==◌, ◌||◌, not, Bool, true, false, List, [], ◌∷◌, ◌++◌, length, map, refl, ap, arith}
+use Rattle.std.specs.List.{flat_map, list_any}
 use Rattle.std.proofs.lemmas.Bool.{eqb-true, or_parts}
 use Rattle.fw_model.specs.declared.config.Config.{Config}
 use Rattle.fw_model.specs.declared.rich.Rich.{Rich}
-use Rattle.fw_model.specs.declared.rules.Rules.{Rules}
 use Rattle.fw_order.specs.Order.{by_priority}
 use Rattle.fw_verdict.specs.Changes.{ChangeItem}
 use Rattle.fw_verdict.specs.Outside.{outside_items, placed_items, plain_items, port_item, stands_at}
-use Rattle.fw_verdict.specs.Sides.{side_items}
 use Rattle.fw_verdict.specs.declared.outside.Place.{Place}
 use Rattle.fw_verdict.specs.declared.outside.Place.TheVariants as place
-use Rattle.fw_verdict.specs.declared.sides.Side.{Side}
 use Rattle.fw_verdict.specs.declared.sides.Side.TheVariants as side
-use Rattle.lower_outside.specs.Needed.{OthersDoNothing, has_changes}
+use Rattle.lower_outside.specs.Needed.{OthersDoNothing}
 use Rattle.lower_outside.proofs.Lists.{none_kept}
 
 nothing_placed : (config : Config) (place : Place) (rules : List Rich) → list_any (stands_at place) rules ≡ false → placed_items config place rules ≡ []

@@ -1,8 +1,8 @@
 -- What holds of each item of a list holds of each of those that are kept and put in order.
-use Rattle.std.proofs.Common.{◌≡◌, ◌∙◌, ◌<◌, ℕ, zero, suc, Bool, true, false, ◌||◌, not, List, [], ◌∷◌, ◌++◌, length, get_or, map, Bor, refl, sym, ap, subst, arith}
+use Rattle.std.proofs.Common.{◌≡◌, ◌∙◌, ◌<◌, ℕ, zero, suc, Bool, true, false, List, [], ◌∷◌, length, get_or, Bor, refl, sym, ap, subst, arith}
 use Rattle.std.proofs.lemmas.Bool.{or_parts}
 use Rattle.std.specs.Prelude.{if◌then◌else◌}
-use Rattle.std.specs.List.{filter, flat_map, list_any}
+use Rattle.std.specs.List.{filter, list_any}
 use Rattle.fw_order.specs.Borrowed.{lent}
 use Rattle.fw_order.specs.Order.{in_order, placed}
 use Rattle.fw_valid.specs.Each.{Each}

@@ -1,6 +1,6 @@
 -- What changes leave of a packet is a packet.
-use Rattle.std.proofs.Common.{◌≡◌, ◌∙◌, ◌<◌, ◌^◌, ◌-◌, ℕ, Bool, true, false, List, [], ◌∷◌, ◌++◌, Option, None, Some, refl, sym, ap, subst, arith}
-use Rattle.std.specs.Prelude.{bit_and, bit_xor, if◌then◌else◌, unwrap_or}
+use Rattle.std.proofs.Common.{◌≡◌, ◌<◌, ◌^◌, ◌-◌, ℕ, Bool, true, false, List, [], ◌∷◌, ◌++◌, Option, None, Some, refl, sym, subst, arith}
+use Rattle.std.specs.Prelude.{bit_and, if◌then◌else◌, unwrap_or}
 use Rattle.std.proofs.lemmas.Nat.{and_le_l, xor_lt}
 use Rattle.fw_addr.specs.Subnets.{family}
 use Rattle.fw_addr.specs.declared.addr.Addr.{Addr}
@@ -10,7 +10,7 @@ use Rattle.fw_addr.specs.declared.packet.Family.TheVariants.{V4, V6}
 use Rattle.fw_model.specs.Packets.{IsAddress, IsPacket}
 use Rattle.fw_model.specs.declared.packet.Packet.{Packet}
 use Rattle.fw_valid.specs.Each.{IfThere}
-use Rattle.fw_verdict.specs.Changes.{Change, ChangeItem, Passing, Reached, and_on, changed, ends, going_on, new_mark, reached_by, through, with_destination, with_mark}
+use Rattle.fw_verdict.specs.Changes.{Change, ChangeItem, Passing, Reached, and_on, changed, ends, going_on, new_mark, through, with_destination, with_mark}
 use Rattle.fw_verdict.specs.Changes.Change.{log, mark, masquerade, translate}
 use Rattle.lower_outside.specs.Does.{KeepPackets}
 use Rattle.lower_outside.specs.Steps.{CanBeMade, IsTarget}

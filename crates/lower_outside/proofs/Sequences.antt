@@ -1,8 +1,8 @@
 -- Rules one after another, and chains that others jump to.
-use Rattle.std.proofs.Common.{◌≡◌, ◌∙◌, ℕ, Bool, true, false, List, [], ◌∷◌, ◌++◌, Option, Some, refl, sym, ap, subst, append-nil, append_assoc}
+use Rattle.std.proofs.Common.{◌≡◌, ℕ, Bool, true, false, List, [], ◌∷◌, ◌++◌, Option, Some, refl, sym, subst, append-nil, append_assoc}
 use Rattle.fw_model.specs.declared.outcome.Verdict.{Verdict}
 use Rattle.fw_verdict.specs.Changes.{ChangeItem, Passing, Reached, and_on, reached_by, through}
-use Rattle.lower_outside.specs.Does.{FromThere, JumpReaches, Onward, Reach, moment_of, passing_of}
+use Rattle.lower_outside.specs.Does.{JumpReaches, Onward, Reach, moment_of, passing_of}
 use Rattle.lower_outside.specs.Work.{ChainReaches}
 use Rattle.lower_zone.specs.Forms.{chain_named, jump_to}
 use Rattle.nf_chains.specs.Evaluation.{Ends}

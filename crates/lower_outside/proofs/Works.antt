@@ -2,7 +2,7 @@
 use Rattle.std.proofs.Common.{◌≡◌, ◌∙◌, ◌≤◌, ◌⊎◌, inl, inr, ℕ, Bool, true, false, List, [], ◌∷◌, ◌++◌, length, Option, refl, sym, ap, subst, append-nil, append_assoc}
 use Rattle.fw_model.specs.declared.config.Config.{Config}
 use Rattle.fw_model.specs.declared.packet.Packet.{Packet}
-use Rattle.fw_verdict.specs.Changes.{Change, ChangeItem, Reached, and_on, ends, through}
+use Rattle.fw_verdict.specs.Changes.{Change, ChangeItem, Reached, ends, through}
 use Rattle.fw_verdict.specs.Changes.Change.{log, mark, masquerade, translate}
 use Rattle.fw_verdict.specs.declared.sides.Side.{Side}
 use Rattle.fw_zone.specs.Lists.{IsIn}
@@ -11,7 +11,7 @@ use Rattle.lower_outside.specs.Changing.{DoSteps}
 use Rattle.lower_outside.specs.Names.{block_name, own_name}
 use Rattle.lower_outside.specs.Stands.{StandAlone}
 use Rattle.lower_outside.specs.Steps.{AreTold, CanBeMade, IsTold, statement_of}
-use Rattle.lower_outside.specs.Work.{Adds, AreBuilt, ChainReaches, HasOwn, HasStep, is_last, once_rules}
+use Rattle.lower_outside.specs.Work.{Adds, AreBuilt, HasOwn, HasStep, is_last, once_rules}
 use Rattle.lower_outside.specs.Work.HasStep.{alone, own}
 use Rattle.lower_outside.specs.declared.steps.Step.{Step}
 use Rattle.lower_outside.proofs.Alternatives.{alone_changes, can_make, chain_changes, each_ends, reached_where}
@@ -19,7 +19,7 @@ use Rattle.lower_outside.proofs.Built.{built_both, built_leaves, built_nothing, 
 use Rattle.lower_outside.proofs.Packets.{keep_both, keep_nothing, keep_one}
 use Rattle.lower_outside.proofs.Sequences.{both_reach, jump_is, jump_reaches, nothing_reached, through_append, through_one, whole}
 use Rattle.lower_outside.proofs.Told.{told_last}
-use Rattle.lower_zone.specs.Evaluates.{EachIsThere, Meeting}
+use Rattle.lower_zone.specs.Evaluates.{EachIsThere}
 use Rattle.lower_zone.specs.Forms.{chain_named, each, jump_to}
 use Rattle.lower_zone.specs.Work.{one_holds_at}
 use Rattle.lower_zone.proofs.Built.{in_first, in_second}
@@ -177,7 +177,7 @@ pub does_steps : (config : Config) (of : Side) (block called : List ℕ) (items 
     → DoSteps config of block items all
 does_steps config of block called items old_rules rules old_chains chains all no_rule no_chain added same are =
     let from_none = subst (λ (start : List Rule). Adds config items start rules [] chains) no_rule
-        (subst (λ (start : List Chain). Adds config items old_rules rules start chains) no_chain added) in
+    (subst (λ (start : List Chain). Adds config items old_rules rules start chains) no_chain added) in
     let all_are = are ∙ ap (λ (one : List ℕ). chains ++ chain_named one rules ∷ []) same in
     record {
       changes = changes_as config (block_name of block) items rules chains all from_none all_are;

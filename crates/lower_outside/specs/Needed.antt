@@ -1,5 +1,5 @@
 -- Which settings do anything outside the filter.
-use Rattle.std.specs.Prelude.{◌≡◌, ◌==◌, ℕ, List, [], length, Bool, false, not, ◌||◌}
+use Rattle.std.specs.Prelude.{◌≡◌, ◌==◌, [], length, Bool, false, not, ◌||◌}
 use Rattle.std.specs.List.{list_any}
 use Rattle.fw_model.specs.declared.config.Config.{Config}
 use Rattle.fw_model.specs.declared.rules.Rules.{Rules}

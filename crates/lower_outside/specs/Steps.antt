@@ -1,5 +1,5 @@
 -- The steps of settings on the way to rules: what is done, and the packets of which it is done, told in alternatives.
-use Rattle.std.specs.Prelude.{◌≡◌, ◌<◌, ◌^◌, ℕ, List, [], ◌∷◌, ◌++◌, Bool, true, ◌&&◌, Option, None, Some}
+use Rattle.std.specs.Prelude.{◌≡◌, ◌<◌, ◌^◌, List, [], ◌∷◌, ◌++◌, Bool, true, ◌&&◌, Option}
 use Rattle.fw_addr.specs.declared.dnat.Dnat.{Dnat}
 use Rattle.fw_addr.specs.declared.limit.Limit.{Limit}
 use Rattle.fw_model.specs.Packets.{IsAddress}

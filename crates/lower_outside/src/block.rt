@@ -30,11 +30,7 @@ fn is_last(stmt: &Stmt) -> bool
 }
 
 /// The rules of a chain that does something once, whichever alternatives a packet meets.
-fn once_rules(
-    alloc: Global,
-    alternatives: Seq<Seq<Match>>,
-    stmt: Stmt,
-) -> Result<Seq<Rule>, Memory>
+fn once_rules(alloc: Global, alternatives: Seq<Seq<Match>>, stmt: Stmt) -> Result<Seq<Rule>, Memory>
     ensures { IfOk result (λ rules. rules ≡ once_rules stmt alternatives) }
 {
     let mut stmts = one(alloc, stmt)?;

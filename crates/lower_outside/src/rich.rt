@@ -128,10 +128,7 @@ pub fn push_translation(
 }
 
 /// Leaving with the host's own address.
-pub fn push_masquerade(
-    alternatives: Seq<Seq<Match>>,
-    steps: &mut Seq<Step>,
-) -> Result<(), Memory>
+pub fn push_masquerade(alternatives: Seq<Seq<Match>>, steps: &mut Seq<Step>) -> Result<(), Memory>
     ensures { OnOk result ((config : Config) (condition : Packet → Bool) → Tells config alternatives condition
         → Tell config (item_of condition masquerade ∷ []) steps.old steps.new) }
 {

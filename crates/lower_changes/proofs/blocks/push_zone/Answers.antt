@@ -1,4 +1,4 @@
-use Rattle.std.proofs.Common.{◌≡◌, ◌∙◌, Bool, [], ◌∷◌, sym, subst}
+use Rattle.std.proofs.Common.{◌∙◌, Bool, [], ◌∷◌, sym, subst}
 use Rattle.std.specs.Prelude.{if◌then◌else◌}
 use Rattle.std.proofs.lemmas.Result.{on_ok_weaker}
 use Rattle.lower_blocks.specs.Blocks.Told.{of_zone}

@@ -1,4 +1,4 @@
-use Rattle.std.proofs.Common.{◌≡◌, [], List, subst, sym}
+use Rattle.std.proofs.Common.{[], List, subst, sym}
 use Rattle.std.specs.List.{flat_map}
 use Rattle.fw_model.specs.declared.policy.Policy.{Policy}
 use Rattle.fw_order.specs.Borrowed.{lent}
@@ -15,7 +15,7 @@ returns c = λ written.
     let config = c.args.config.now in
     let of = c.args.side in
     let behind = subst (λ (list : List Policy). Each (λ (policy : Policy). AreWritten policy.rules) list
-        → Behind config of (flat_map (told_policy of (lent c.args.zones.now)) list) c.push_zones.new.chains c.push_policies.new.chains)
-        c.as_slice.ensures c.in_ok-push_policies.ensures in
+    → Behind config of (flat_map (told_policy of (lent c.args.zones.now)) list) c.push_zones.new.chains c.push_policies.new.chains)
+    c.as_slice.ensures c.in_ok-push_policies.ensures in
     behind written.of_policies _
     (c.in_ok-push_zones.ensures written.of_zones [] (subst (λ (chains : List Chain). AreBlocks config of [] chains) (sym c.new-chains.ensures) none))

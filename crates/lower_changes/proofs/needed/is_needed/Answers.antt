@@ -1,4 +1,4 @@
-use Rattle.std.proofs.Common.{◌≡◌, ◌∙◌, ◌&&◌, Bool, Bor, List, ℕ, Some, ap, sym}
+use Rattle.std.proofs.Common.{◌∙◌, ◌&&◌, Bool, Bor, List, ℕ, Some, ap, sym}
 use Rattle.std.specs.List.{list_any}
 use Rattle.fw_model.specs.declared.zone.Zone.{Zone}
 use Rattle.fw_order.specs.Borrowed.{lent}

@@ -1,4 +1,4 @@
-use Rattle.std.proofs.Common.{◌≡◌, List, sym, subst}
+use Rattle.std.proofs.Common.{List, sym, subst}
 use Rattle.lower_outside.specs.Work.{AreNamed}
 use Rattle.lower_outside.proofs.Named.{named_none, names_differ}
 use Rattle.lower_outside.proofs.Works.{does_steps}

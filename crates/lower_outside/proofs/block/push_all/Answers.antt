@@ -1,4 +1,4 @@
-use Rattle.std.proofs.Common.{◌≡◌, List, [], sym, subst}
+use Rattle.std.proofs.Common.{List, sym, subst}
 use Rattle.fw_verdict.specs.Changes.{ChangeItem}
 use Rattle.lower_outside.specs.Work.{Adds}
 use Rattle.lower_outside.proofs.Named.{named_step}

@@ -1,4 +1,4 @@
-use Rattle.std.proofs.Common.{◌≡◌, ◌∙◌, Option, sym, subst, ap}
+use Rattle.std.proofs.Common.{◌∙◌, Option, sym, subst, ap}
 use Rattle.std.proofs.lemmas.Result.{on_ok_weaker}
 use Rattle.fw_hits.specs.Rich.{hits_rich}
 use Rattle.fw_model.specs.declared.rich.RichLog.{RichLog}

@@ -1,9 +1,9 @@
-use Rattle.std.proofs.Common.{◌≡◌, ◌∙◌, List, ap, sym, subst}
+use Rattle.std.proofs.Common.{◌∙◌, List, ap, sym, subst}
 use Rattle.std.specs.List.{filter, flat_map}
 use Rattle.std.proofs.lemmas.Result.{on_ok_weaker}
 use Rattle.fw_model.specs.declared.rich.Rich.{Rich}
 use Rattle.fw_order.specs.Borrowed.{lent}
-use Rattle.fw_order.specs.Order.{by_priority, has_lower_priority}
+use Rattle.fw_order.specs.Order.{has_lower_priority}
 use Rattle.fw_valid.specs.Each.{Each}
 use Rattle.fw_valid.specs.Riches.{IsRich}
 use Rattle.fw_verdict.specs.Outside.{outside_items, stands_at}

@@ -1,4 +1,3 @@
-use Rattle.std.proofs.Common.{◌≡◌}
 use Rattle.std.proofs.lemmas.Result.{on_ok_weaker}
 use Rattle.fw_model.specs.declared.setting.Setting.TheVariants as setting
 use Rattle.fw_verdict.specs.Outside.{effect_items, log_items}

@@ -1,4 +1,4 @@
-use Rattle.std.proofs.Common.{◌≡◌, refl}
+use Rattle.std.proofs.Common.{refl}
 use Rattle.std.proofs.lemmas.Result.{on_ok_weaker}
 use Rattle.fw_verdict.specs.Changes.Change.{translate}
 use Rattle.lower_outside.proofs.Told.{tell_change}

@@ -1,4 +1,4 @@
-use Rattle.std.proofs.Common.{◌≡◌, List, [], ◌∷◌, true, sym, subst}
+use Rattle.std.proofs.Common.{◌≡◌, [], ◌∷◌, true, sym, subst}
 use Rattle.std.proofs.lemmas.Result.{on_ok_weaker}
 use Rattle.fw_addr.specs.declared.dnat.Dnat.{Dnat}
 use Rattle.fw_hits.specs.Hits.{hits}

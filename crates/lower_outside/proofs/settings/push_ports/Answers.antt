@@ -1,4 +1,4 @@
-use Rattle.std.proofs.Common.{◌≡◌, List, [], ◌∷◌, map, take, sym, subst}
+use Rattle.std.proofs.Common.{List, [], ◌∷◌, map, take, sym, subst}
 use Rattle.fw_valid.specs.Rules.{IsPlainForward}
 use Rattle.fw_verdict.specs.Changes.{ChangeItem}
 use Rattle.fw_verdict.specs.Outside.{port_item}

@@ -1,4 +1,3 @@
-use Rattle.std.proofs.Common.{◌≡◌}
 use Rattle.fw_verdict.specs.Sides.{side_items}
 use Rattle.lower_outside.proofs.Told.{told_from_none}
 use Rattle.lower_outside.proofs.settings.side_steps.Goals as goal
