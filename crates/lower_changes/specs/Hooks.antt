@@ -1,5 +1,5 @@
 -- A ruleset in which the chains of the three sides stand, and what packets become at prerouting and postrouting.
-use Rattle.std.specs.Prelude.{◌≡◌, ℕ, List, [], ◌∷◌, ◌++◌, Option, None, Some, IsSome}
+use Rattle.std.specs.Prelude.{◌≡◌, ℕ, List, [], ◌∷◌, ◌++◌, true, Option, None, Some, IsSome}
 use Rattle.fw_hits.specs.Bindings.{default_zone}
 use Rattle.fw_model.specs.Packets.{IsPacket}
 use Rattle.fw_model.specs.declared.config.Config.{Config}
@@ -14,7 +14,7 @@ use Rattle.lower_changes.specs.Works.{SideWorks, bases_of}
 use Rattle.lower_dispatch.specs.Uses.{IsUsed}
 use Rattle.lower_match.specs.Lowers.{EachStands}
 use Rattle.lower_outside.specs.Does.{moment_of, passing_of}
-use Rattle.nf_chains.specs.Hooks.{Meets, next_at}
+use Rattle.nf_chains.specs.Hooks.{Meets, is_at, next_at, runs_before}
 use Rattle.nf_chains.specs.Moments.{Moment}
 use Rattle.nf_rules.specs.declared.chain.Chain.{Chain}
 use Rattle.nf_rules.specs.declared.chain.Hook.{Hook}
@@ -62,3 +62,18 @@ PostroutingChanges =
     → (now : Moment) (name : List ℕ)
     → IsPacket now.packet
     → Passes rules (Some name) hook.Postrouting now (postrouted config Accept (Some name) (passing_of now))
+
+-- each of these runs before all behind it
+abbrev pub AreInOrder : List Chain → Type 0
+AreInOrder [] = Unit {0}
+AreInOrder (chain ∷ chains) = ((other : Chain) → IsIn other chains → runs_before chain other ≡ true) × AreInOrder chains
+
+-- A law: where certain chains, in order, are those at a hook, they run there, and no other does.
+abbrev pub BasesRun : Type 0
+BasesRun =
+    (rules : Ruleset) (at : Hook) (bases : List Chain)
+    → ((chain : Chain) → IsIn chain rules.chains → is_at at chain.base ≡ true → IsIn chain bases)
+    → ((chain : Chain) → IsIn chain bases → IsIn chain rules.chains)
+    → ((chain : Chain) → IsIn chain bases → is_at at chain.base ≡ true)
+    → AreInOrder bases
+    → RunAt rules at None bases

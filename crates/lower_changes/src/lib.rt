@@ -10,5 +10,8 @@ mod needed;
 mod rules;
 mod sides;
 
-pub use laws::{postrouting_changes, prerouting_changes, sides_work};
+pub use laws::{
+    bases_run, chains_are_apart, postrouting_changes, prerouting_changes, sides_are_apart,
+    sides_hold, sides_stand_outside, sides_work,
+};
 pub use sides::side_chains;
