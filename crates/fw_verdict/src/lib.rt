@@ -16,7 +16,7 @@ mod way;
 
 pub use filter::{stays_within, target_forwarded};
 pub use items::REJECT;
-pub use outside::{Place, rules_at};
+pub use outside::{Place, rules_at, stands_at};
 pub use policies::{End, Stage, decided_by_target, policies_at, stands_for};
 pub use rich::{Part, audit_name, blocks_icmp, reject_type, rules_in};
 pub use sides::{Side, policies_beside, settings_beside};

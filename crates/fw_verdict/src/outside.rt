@@ -42,7 +42,8 @@ fn masquerades(element: &Option<Element>) -> bool
     }
 }
 
-fn stands_at(place: Place, rule: &Rich) -> bool
+/// Whether a rule stands at a place.
+pub fn stands_at(place: Place, rule: &Rich) -> bool
     ensures { result ≡ stands_at place rule.now }
 {
     match place {

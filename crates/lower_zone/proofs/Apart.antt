@@ -84,13 +84,13 @@ taken_later : (block : List ℕ) (parts later count more : ℕ) (name : List ℕ
 taken_later block parts later count more name further longer (of_part part before is) = of_part part (omega (arith, before, further)) is
 taken_later block parts later count more name further longer (own number below small is) = own number (omega (arith, below, longer)) small is
 
-in_pushed : {A : Type 0} (item last : A) (items : List A) → IsIn item (items ++ last ∷ []) → IsIn item items ⊎ (last ≡ item)
+pub in_pushed : {A : Type 0} (item last : A) (items : List A) → IsIn item (items ++ last ∷ []) → IsIn item items ⊎ (last ≡ item)
 in_pushed item last [] (inl same) = inr same
 in_pushed item last [] (inr there) = absurd there
 in_pushed item last (first ∷ others) (inl same) = inl (inl same)
 in_pushed item last (first ∷ others) (inr there) = ⊎_elim (λ old. inl (inr old)) (λ same. inr same) (in_pushed item last others there)
 
-in_place : {A : Type 0} (items : List A) (at : ℕ) (default : A) → at < length items → IsIn (get_or items at default) items
+pub in_place : {A : Type 0} (items : List A) (at : ℕ) (default : A) → at < length items → IsIn (get_or items at default) items
 in_place [] at default within = absurd (omega (arith, within))
 in_place (first ∷ others) zero default within = inl refl
 in_place (first ∷ others) (suc at) default within = inr (in_place others at default (omega (arith, within)))
@@ -153,13 +153,13 @@ not_capital byte is =
     let bounds = and_parts (nat_le 48 byte) (nat_le byte 57) is in
     ap (λ (b : Bool). b && nat_le byte 90) (lt-leb 65 byte (omega (arith, leb-true byte 57 bounds.1)))
 
-past_digits : (digits behind : List ℕ) → all_ascii_digits digits ≡ true → block_of (digits ++ behind) ≡ block_of behind
+pub past_digits : (digits behind : List ℕ) → all_ascii_digits digits ≡ true → block_of (digits ++ behind) ≡ block_of behind
 past_digits [] behind are = refl
 past_digits (byte ∷ bytes) behind are =
     let both = and_parts (is_ascii_digit byte) (all_ascii_digits bytes) are in
     ap (λ (b : Bool). if b then byte ∷ (bytes ++ behind) else block_of (bytes ++ behind)) (not_capital byte both.0) ∙ past_digits bytes behind both.1
 
-digits : IsNumeralModel (λ text. all_ascii_digits text ≡ true) (digits_value 10)
+pub digits : IsNumeralModel (λ text. all_ascii_digits text ≡ true) (digits_value 10)
 digits = numerals_by_value (λ text. all_ascii_digits text ≡ true) tells_all_ascii_digits
 
 part_tells : (part : Part) (block : List ℕ) → block_of (part_name part block) ≡ block_of block

@@ -14,5 +14,5 @@ mod zone;
 
 pub use laws::blocks_are_apart;
 pub use policy::policy_chains;
-pub use rules::{one, statement};
+pub use rules::{jump_to, limited, one, push_each, statement};
 pub use zone::zone_chains;

@@ -1,0 +1,9 @@
+pub mod Alternatives
+pub mod Built
+pub mod Idle
+pub mod Lists
+pub mod Named
+pub mod Packets
+pub mod Sequences
+pub mod Told
+pub mod Works
