@@ -5,4 +5,5 @@ pub mod Passing
 pub mod Running
 pub mod Standing
 pub mod There
+pub mod Whole
 pub mod Working

@@ -162,7 +162,7 @@ origin_on : (now : Passing) (over : Bool) (others : Passing → Reached) (from :
 origin_on now true others from is same = is
 origin_on now false others from is same = same now ∙ is
 
-through_origin : (items : List ChangeItem) (now : Passing) → (through items now).now.packet.origin ≡ now.packet.origin
+pub through_origin : (items : List ChangeItem) (now : Passing) → (through items now).now.packet.origin ≡ now.packet.origin
 through_origin [] now = refl
 through_origin (item ∷ items) now =
     origin_on (reached_by item now).now (reached_by item now).over (through items) now.packet.origin

@@ -7,4 +7,5 @@ pub mod Needed
 pub mod Rules
 pub mod Sides
 pub mod Stands
+pub mod Whole
 pub mod Works

@@ -2,6 +2,7 @@
 ghost use Rattle.lower_changes.specs.Apart.{ChainsApart, SidesApart, StandOutside};
 ghost use Rattle.lower_changes.specs.Hooks.{BasesRun, PostroutingChanges, PreroutingChanges};
 ghost use Rattle.lower_changes.specs.Stands.{SidesHold};
+ghost use Rattle.lower_changes.specs.Whole.{WayIsLed};
 ghost use Rattle.lower_changes.specs.Works.{SidesWork};
 
 /// The chains of a side do with packets what the settings do that have this side.
@@ -42,4 +43,9 @@ pub fn sides_are_apart()
 /// The names of these chains begin with another letter than those of the filter.
 pub fn sides_stand_outside()
     ensures { StandOutside }
+{}
+
+/// Where these chains and the filter stand in a ruleset, what nft(8) makes of a packet is its way through the firewall.
+pub fn way_is_led()
+    ensures { WayIsLed }
 {}

@@ -12,6 +12,6 @@ mod sides;
 
 pub use laws::{
     bases_run, chains_are_apart, postrouting_changes, prerouting_changes, sides_are_apart,
-    sides_hold, sides_stand_outside, sides_work,
+    sides_hold, sides_stand_outside, sides_work, way_is_led,
 };
 pub use sides::side_chains;
