@@ -15,7 +15,8 @@ const PATH: &str = "kept.txt";
 fn main(rt: HostRuntime) -> Result<()> {
     in_memory(&rt)?;
     in_a_file(&rt)?;
-    in_no_folder(&rt)
+    in_no_folder(&rt)?;
+    beside_a_half_written_file(&rt)
 }
 
 /// A keeper in memory.
@@ -52,6 +53,29 @@ fn in_no_folder(rt: &HostRuntime) -> Result<()> {
     let mut file = FileKeeper::new(rt, Text::of(rt.alloc(), "nowhere/kept.txt")?);
     let told = six_calls(rt.alloc(), &mut file)?;
     print!(rt; "in a folder that isn't there:\n{told}")?;
+    Ok(())
+}
+
+/// A keeper whose last save was cut off: half of a text stands in the file that a save makes first. Between its saves somebody else reads.
+fn beside_a_half_written_file(rt: &HostRuntime) -> Result<()> {
+    fs::write(rt, "kept.txt.new", "half of a te")?;
+    let mut file = FileKeeper::new(rt, Text::of(rt.alloc(), PATH)?);
+    let mut told = String::new(rt.alloc());
+    push_load(rt.alloc(), &mut file, &mut told)?;
+    push_save(rt.alloc(), &mut file, "a whole text", &mut told)?;
+    let between = fs::read_to_string(rt, PATH)?;
+    push_save(rt.alloc(), &mut file, "x", &mut told)?;
+    push_load(rt.alloc(), &mut file, &mut told)?;
+    println!(rt; "beside a half-written file:\n{told}read between the saves: {between}")?;
+    println!(rt;
+        "beside it: {}",
+        if fs::exists(rt, "kept.txt.new")? {
+            "left"
+        } else {
+            "nothing"
+        }
+    )?;
+    fs::remove_file(rt, PATH)?;
     Ok(())
 }
 
