@@ -173,9 +173,7 @@ fn main(rt: HostRuntime) -> Result<()> {
         .ok_or_else(|| anyhow!("how many events?"))?
         .as_str()
         .parse::<u64>()?;
-    let work = words
-        .next()
-        .ok_or_else(|| anyhow!("add, query or copy?"))?;
+    let work = words.next().ok_or_else(|| anyhow!("add, query or copy?"))?;
     let (done, ports) = counted(rt.alloc(), count, work.as_str())?;
     println!(rt; "{done} done, {ports} ports")?;
     Ok(())

@@ -12,8 +12,7 @@ use fw_service::built_in_config;
 use fw_store::config_to_text;
 use serde_json::Value;
 use std::alloc::Global;
-use std::env;
-use std::str;
+use std::{env, str};
 
 /// How many entries the ipset has.
 const ENTRIES: u32 = 10_000;
