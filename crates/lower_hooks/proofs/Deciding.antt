@@ -2,7 +2,6 @@
 use Rattle.std.proofs.Common.{◌≡◌, ◌∙◌, ℕ, Bool, true, false, ◌&&◌, ◌||◌, List, [], ◌∷◌, ◌++◌, Option, Some, refl, sym, ap, subst}
 use Rattle.std.specs.Prelude.{if◌then◌else◌, codes}
 use Rattle.std.specs.Str.{bytes_eq}
-use Rattle.fw_addr.specs.Protocols.{icmp_protocol, icmpv6_protocol}
 use Rattle.fw_addr.specs.declared.packet.CtState.{CtState}
 use Rattle.fw_addr.specs.declared.packet.CtState.TheVariants as state
 use Rattle.fw_addr.specs.declared.reject.RejectType.TheVariants.{IcmpxAdminProhibited}

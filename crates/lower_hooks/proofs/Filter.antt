@@ -10,7 +10,7 @@ use Rattle.fw_model.specs.declared.zone.Zone.{Zone}
 use Rattle.fw_verdict.specs.Way.{forwarded, from_host, to_host}
 use Rattle.lower_dispatch.specs.Laws.{PacketsUseZones}
 use Rattle.lower_dispatch.specs.declared.direction.Direction.TheVariants as direction
-use Rattle.lower_hooks.specs.Decides.{FilterStands, MeetsAs}
+use Rattle.lower_hooks.specs.Decides.{MeetsAs}
 use Rattle.lower_hooks.specs.Laws.{HooksDecide}
 use Rattle.lower_hooks.specs.Stands.{Works}
 use Rattle.lower_hooks.proofs.Passing.{meets_as, zone_is}
