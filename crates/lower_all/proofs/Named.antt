@@ -17,6 +17,7 @@ use Rattle.std.proofs.lemmas.List.{append_cancel_left}
 use Rattle.lower_all.proofs.Distinct.{apart_from_names, distinct_told}
 use Rattle.lower_all.proofs.Found.{apart_again, by_name, found, is_in_again}
 use Rattle.lower_all.proofs.Apart.{names_apart}
+use Rattle.lower_all.proofs.Laws.{NameLaws}
 use Rattle.lower_blocks.proofs.Lists.{in_first, in_map, in_second}
 
 map_twice : {A B C : Type 0} (f : B → C) (g : A → B) (items : List A) → map f (map g items) ≡ map (λ item. f (g item)) items
@@ -25,8 +26,8 @@ map_twice f g (item ∷ items) = ap (λ rest. f (g item) ∷ rest) (map_twice f 
 
 -- chains
 
-pub chains_by_name : (config : Config) (chains : List Chain) → AreJoined config chains → AreNamed config → IsByName (λ (chain : Chain). chain.name) chains
-chains_by_name config chains joined named = by_name (λ (chain : Chain). chain.name) chains joined.sorted (names_apart config chains joined named)
+pub chains_by_name : NameLaws → (config : Config) (chains : List Chain) → AreJoined config chains → AreNamed config → IsByName (λ (chain : Chain). chain.name) chains
+chains_by_name laws config chains joined named = by_name (λ (chain : Chain). chain.name) chains joined.sorted (names_apart laws config named chains joined)
 
 -- sets
 

@@ -8,15 +8,20 @@ use Rattle.fw_verdict.specs.Policies.{End, policies_at}
 use Rattle.fw_verdict.specs.Policies.End.{at_host, in_zone}
 use Rattle.fw_verdict.specs.declared.policies.Stage.{Stage}
 use Rattle.fw_verdict.specs.declared.policies.Stage.TheVariants as stage
+use Rattle.fw_verdict.specs.declared.sides.Side.TheVariants as side
 use Rattle.fw_zone.specs.Lists.{IsIn}
 use Rattle.lower_all.specs.Joined.{AreJoined, used_zones}
 use Rattle.lower_all.proofs.Among.{both, in_filter, of_filter}
-use Rattle.lower_all.proofs.Parts.{HasParts, block_there, each_chain, forwards_there, in_forwards, in_inputs, in_outputs, inputs_there, outputs_there}
+use Rattle.lower_all.proofs.Bases.{StandsAs, at_postrouting, at_prerouting, each_stands, side_works}
+use Rattle.lower_all.proofs.Bases.StandsAs.{at_forward, at_input, at_output, of_side, plain}
+use Rattle.lower_all.proofs.Laws.{SideLaws}
+use Rattle.lower_all.proofs.Parts.{HasParts, block_there, forwards_there, in_forwards, in_inputs, in_outputs, inputs_there, outputs_there}
 use Rattle.lower_blocks.proofs.Lists.{in_first, in_map, in_second}
 use Rattle.lower_blocks.specs.Blocks.{Told, block_of, walk_of}
 use Rattle.lower_blocks.specs.Blocks.Told.{of_policy, of_zone}
 use Rattle.lower_blocks.specs.Needed.{ActingPoliciesAreTold, IsEnd, all_told, is_needed, is_told}
-use Rattle.lower_blocks.proofs.There.{BlockIn, OfBlock, block_is_in, of_some_block}
+use Rattle.lower_blocks.proofs.There.{BlockIn, block_is_in}
+use Rattle.lower_changes.specs.Hooks.{SidesStand}
 use Rattle.lower_dispatch.specs.Uses.{IsUsed, is_in_use}
 use Rattle.lower_hooks.specs.Chains.{base_chain}
 use Rattle.lower_hooks.specs.Laws.{OneRunsAtEach}
@@ -50,20 +55,22 @@ module _ (config : Config) (rules : Ruleset) (parts : HasParts config rules) whe
   zone_stands : (zone : Zone) → IsIn zone (used_zones config) → ZoneStands config rules zone
   zone_stands zone among some = block_does (of_zone zone) (zone_is_told zone among some)
 
-  -- The three base chains, and no others.
-  are_bases : AreBases rules.chains parts.joined.input.rules parts.joined.forward.rules parts.joined.output.rules
-  are_bases =
-      each_chain config rules parts
-      (λ chain. (chain.base ≡ None)
-      ⊎ ((chain ≡ base_chain (codes "filter_INPUT") hook.Input parts.joined.input.rules)
-      ⊎ ((chain ≡ base_chain (codes "filter_FORWARD") hook.Forward parts.joined.forward.rules)
-      ⊎ (chain ≡ base_chain (codes "filter_OUTPUT") hook.Output parts.joined.output.rules))))
-      (λ chain among. elim (parts.joined.input.base.only chain among) [ inl same ↦ inr (inl (sym same)) | inr plain ↦ inl plain ])
-      (λ chain among. elim (parts.joined.forward.base.only chain among) [ inl same ↦ inr (inr (inl (sym same))) | inr plain ↦ inl plain ])
-      (λ chain among. elim (parts.joined.output.base.only chain among) [ inl same ↦ inr (inr (inr (sym same))) | inr plain ↦ inl plain ])
-      (λ chain among.
-      let found = of_some_block config (all_told config (used_zones config)) parts.joined.settings parts.joined.blocks chain among in
-      inl (found.is.stands.no_base chain found.chain_in))
+  -- No other base chain than these stands in the filter.
+  are_bases : SideLaws → AreBases rules.chains parts.joined.input.rules parts.joined.forward.rules parts.joined.output.rules
+  are_bases laws chain there = by (each_stands laws config rules parts chain there)
+    where
+      by : StandsAs laws config rules parts chain
+          → (is_in_filter chain.base ≡ false)
+          ⊎ ((chain ≡ base_chain (codes "filter_INPUT") hook.Input parts.joined.input.rules)
+          ⊎ ((chain ≡ base_chain (codes "filter_FORWARD") hook.Forward parts.joined.forward.rules)
+          ⊎ (chain ≡ base_chain (codes "filter_OUTPUT") hook.Output parts.joined.output.rules)))
+      by (plain is) = inl (ap is_in_filter is)
+      by (at_input is) = inr (inl is)
+      by (at_forward is) = inr (inr (inl is))
+      by (at_output is) = inr (inr (inr is))
+      by (of_side side.Marked is among) = inl (ap is_in_filter is)
+      by (of_side side.Translated is among) = inl (ap is_in_filter is)
+      by (of_side side.Leaving is among) = inl (ap is_in_filter is)
 
   module _ (acting : ActingPoliciesAreTold) where
     policies_stand : (at : Stage) (from to : End) → IsEnd (used_zones config) from → IsEnd (used_zones config) to
@@ -71,8 +78,8 @@ module _ (config : Config) (rules : Ruleset) (parts : HasParts config rules) whe
     policies_stand at from to is_from is_to policy listed some =
         block_does (of_policy policy) (acting config (used_zones config) at from to policy is_from is_to listed some)
 
-    pub all_works : OneRunsAtEach → Works config rules
-    all_works one_runs = record {
+    pub all_works : SideLaws → OneRunsAtEach → Works config rules
+    all_works laws one_runs = record {
       zones = used_zones config;
       inputs = parts.joined.inputs;
       forwards = parts.joined.forwards;
@@ -83,7 +90,7 @@ module _ (config : Config) (rules : Ruleset) (parts : HasParts config rules) whe
       inputs_there = inputs_there config rules parts;
       forwards_there = forwards_there config rules parts;
       outputs_there = outputs_there config rules parts;
-      bases = one_runs rules parts.joined.input.rules parts.joined.forward.rules parts.joined.output.rules are_bases
+      bases = one_runs rules parts.joined.input.rules parts.joined.forward.rules parts.joined.output.rules (are_bases laws)
           (in_inputs config rules parts _ parts.joined.input.base.there)
           (in_forwards config rules parts _ parts.joined.forward.base.there)
           (in_outputs config rules parts _ parts.joined.output.base.there);
@@ -104,3 +111,16 @@ module _ (config : Config) (rules : Ruleset) (parts : HasParts config rules) whe
         behind = policies_stand stage.BehindZone at_host (in_zone (Some zone)) tt among;
       };
     }
+
+  -- the chains outside the filter stand there
+  pub sides_stand : SideLaws → SidesStand config (used_zones config) rules parts.joined.sides.marks parts.joined.sides.targets parts.joined.sides.masks
+  sides_stand laws = record {
+    marked = side_works laws config rules parts side.Marked;
+    translated = side_works laws config rules parts side.Translated;
+    leaving = side_works laws config rules parts side.Leaving;
+    at_prerouting = at_prerouting laws config rules parts;
+    at_postrouting = at_postrouting laws config rules parts;
+    sets = parts.sets;
+    used = used_is_listed;
+    default = parts.default;
+  }
