@@ -16,8 +16,9 @@ use Rattle.fw_verdict.specs.Changes.{Passing, first_passing}
 use Rattle.fw_verdict.specs.Walk.{Walked}
 use Rattle.fw_verdict.specs.Way.{filtered, forwarded, from_host, leaves_by, marked, marked_from, outcome_of, panicked, passed, postrouted, routed, to_host, translated, translated_from, with_lines}
 use Rattle.lower_changes.specs.Hooks.{SidesStand}
-use Rattle.lower_changes.specs.Whole.{FilterStands, MeetsAs, WayIsLed}
+use Rattle.lower_changes.specs.Whole.{WayIsLed}
 use Rattle.lower_changes.proofs.Passing.{postrouting, prerouting}
+use Rattle.lower_hooks.specs.Decides.{FilterStands, MeetsAs}
 use Rattle.lower_outside.specs.Does.{moment_of}
 use Rattle.lower_zone.specs.Evaluates.{behind_lines}
 use Rattle.nf_chains.specs.Hooks as hooks

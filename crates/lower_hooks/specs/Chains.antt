@@ -6,8 +6,7 @@ use Rattle.fw_model.specs.declared.outcome.Verdict.{Verdict}
 use Rattle.fw_model.specs.declared.packet.Packet.{Packet}
 use Rattle.fw_model.specs.declared.zone.Zone.{Zone}
 use Rattle.fw_verdict.specs.Walk.{Walked}
-use Rattle.fw_verdict.specs.FilterWay.{forwarded, to_host}
-use Rattle.fw_verdict.specs.Way.{from_host}
+use Rattle.fw_verdict.specs.Way.{forwarded, from_host, to_host}
 use Rattle.fw_zone.specs.Lists.{IsIn}
 use Rattle.lower_dispatch.specs.Dispatch.{Dispatches}
 use Rattle.lower_dispatch.specs.declared.direction.Direction.TheVariants as direction

@@ -1,4 +1,5 @@
 pub mod Chains
+pub mod Decides
 pub mod Laws
 pub mod Leads
 pub mod Listed

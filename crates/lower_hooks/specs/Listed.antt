@@ -1,7 +1,7 @@
--- The rules of the chains of zones, one after another: jumps to the chains of settings, and what targets decide.
+-- The rules of the chains of zones, one after another: jumps to the chains of settings, and what targets decide, behind lines of what
+-- they deny.
 use Rattle.std.specs.Prelude.{List, ℕ, [], ◌∷◌, ◌++◌, Bool, if◌then◌else◌, Option, None, Some}
 use Rattle.std.specs.List.{flat_map}
-use Rattle.fw_addr.specs.declared.reject.RejectType.TheVariants.{IcmpxAdminProhibited}
 use Rattle.fw_model.specs.declared.config.Config.{Config}
 use Rattle.fw_model.specs.declared.outcome.Verdict.{Verdict}
 use Rattle.fw_model.specs.declared.outcome.Verdict.TheVariants as verdict
@@ -9,12 +9,13 @@ use Rattle.fw_model.specs.declared.policy.Policy.{Policy}
 use Rattle.fw_model.specs.declared.zone.Zone.{Zone}
 use Rattle.fw_model.specs.declared.zone.ZoneTarget.{ZoneTarget}
 use Rattle.fw_model.specs.declared.zone.ZoneTarget.TheVariants as target
+use Rattle.fw_verdict.specs.Denied.{drop_prefix, final_prefix, forward_front, input_front, reject_prefix}
 use Rattle.fw_verdict.specs.Policies.{End, decided_by_target, policies_at}
 use Rattle.fw_verdict.specs.Policies.End.{at_host, in_zone}
 use Rattle.fw_verdict.specs.Way.{stays_within, target_forwarded}
 use Rattle.fw_verdict.specs.declared.policies.Stage.{Stage}
 use Rattle.fw_verdict.specs.declared.policies.Stage.TheVariants as stage
-use Rattle.lower_hooks.specs.Rules.{always, default_rules}
+use Rattle.lower_hooks.specs.Rules.{always, denial_rules, icmp_rules}
 use Rattle.lower_hooks.specs.Settings.{has_settings, has_walk}
 use Rattle.lower_zone.specs.Forms.{jump_to}
 use Rattle.lower_zone.specs.Names.{block_name, policy_block, zone_block}
@@ -43,12 +44,27 @@ policy_rules policy = policy_jump policy ++ decided_rules (decided_by_target pol
 abbrev pub rules_at : Config → Stage → (from to : End) → List Rule
 rules_at config stage from to = flat_map policy_rules (policies_at config stage from to)
 
--- the target of a zone for packets to the host
-abbrev pub target_rules : ZoneTarget → List Rule
-target_rules target.Accept = always verdict.Accept
-target_rules target.Drop = always verdict.Drop
-target_rules target.Reject = always (verdict.Reject IcmpxAdminProhibited)
-target_rules target.Default = default_rules
+-- the line before what a zone's target denies, where denied packets are told of
+abbrev pub target_line : Config → (front name : List ℕ) → ZoneTarget → List Rule
+target_line config front name target.Accept = []
+target_line config front name target.Drop = denial_rules [] config.log_denied (drop_prefix front name)
+target_line config front name target.Reject = denial_rules [] config.log_denied (reject_prefix front name)
+target_line config front name target.Default = denial_rules [] config.log_denied final_prefix
+
+-- the target of a zone, behind its line
+abbrev pub target_rules : Config → (front : List ℕ) → Zone → List Rule
+target_rules config front zone = target_line config front zone.name zone.target ++ always (target_forwarded zone.target)
+
+-- under `default` ICMP to the host is accepted before
+abbrev pub icmp_first : ZoneTarget → List Rule
+icmp_first target.Accept = []
+icmp_first target.Drop = []
+icmp_first target.Reject = []
+icmp_first target.Default = icmp_rules
+
+-- what nothing else decided, to the host
+abbrev pub input_end : Config → Zone → List Rule
+input_end config zone = icmp_first zone.target ++ target_rules config input_front zone
 
 -- what may stay within a zone
 abbrev pub within_rules : (from to : Zone) → List Rule
@@ -60,7 +76,7 @@ input_rules config zone =
     rules_at config stage.BeforeZone (in_zone (Some zone)) at_host
     ++ zone_jump zone
     ++ rules_at config stage.BehindZone (in_zone (Some zone)) at_host
-    ++ target_rules zone.target
+    ++ input_end config zone
 
 -- from a zone to a zone
 abbrev pub forward_rules : Config → (from to : Zone) → List Rule
@@ -68,7 +84,7 @@ forward_rules config from to =
     rules_at config stage.BeforeZone (in_zone (Some from)) (in_zone (Some to))
     ++ within_rules from to
     ++ rules_at config stage.BehindZone (in_zone (Some from)) (in_zone (Some to))
-    ++ always (target_forwarded from.target)
+    ++ target_rules config forward_front from
 
 -- from the host to a zone
 abbrev pub output_rules : Config → Zone → List Rule

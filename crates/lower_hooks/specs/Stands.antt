@@ -1,5 +1,5 @@
 -- A ruleset in which the chains of the hooks stand, one base chain at each of the three.
-use Rattle.std.specs.Prelude.{◌≡◌, ◌⊎◌, ℕ, List, codes, None, Some, IsSome}
+use Rattle.std.specs.Prelude.{◌≡◌, ◌⊎◌, ℕ, List, codes, false, None, Some, IsSome}
 use Rattle.fw_hits.specs.Bindings.{default_zone}
 use Rattle.fw_model.specs.declared.config.Config.{Config}
 use Rattle.fw_model.specs.declared.zone.Zone.{Zone}
@@ -10,7 +10,7 @@ use Rattle.lower_hooks.specs.Zones.{ForwardStands, InputStands, OutputStands}
 use Rattle.lower_match.specs.Lowers.{EachStands}
 use Rattle.lower_zone.specs.Evaluates.{EachIsThere}
 use Rattle.nf_rules.specs.declared.chain.Chain.{Chain}
-use Rattle.nf_chains.specs.Hooks.{next_at}
+use Rattle.nf_chains.specs.Hooks.{is_at, next_at}
 use Rattle.nf_rules.specs.declared.chain.Hook.{Hook}
 use Rattle.nf_rules.specs.declared.chain.Hook.TheVariants as hook
 use Rattle.nf_rules.specs.declared.rule.Rule.{Rule}
@@ -21,23 +21,23 @@ pub record OneAt (rules : Ruleset) (name : List ℕ) (at : Hook) (made : List Ru
   pub first : next_at at None rules.chains ≡ Some (base_chain name at made)
   pub last : next_at at (Some (base_chain name at made)) rules.chains ≡ None
 
--- none does
-abbrev pub NoneAt : Ruleset → Hook → Type 0
-NoneAt rules at = next_at at None rules.chains ≡ None
-
--- The base chains, by their rules.
+-- The base chains at input, forward and output, by their rules. Others may run at prerouting and postrouting.
 pub record HasBases (rules : Ruleset) (input forward output : List Rule) : Type 0 where
-  pub at_prerouting : NoneAt rules hook.Prerouting
   pub at_input : OneAt rules (codes "filter_INPUT") hook.Input input
   pub at_forward : OneAt rules (codes "filter_FORWARD") hook.Forward forward
   pub at_output : OneAt rules (codes "filter_OUTPUT") hook.Output output
-  pub at_postrouting : NoneAt rules hook.Postrouting
 
--- Of these chains three are base chains, and no other is.
+-- a chain that runs at none of the three hooks
+pub record IsElsewhere (chain : Chain) : Type 0 where
+  pub input : is_at hook.Input chain.base ≡ false
+  pub forward : is_at hook.Forward chain.base ≡ false
+  pub output : is_at hook.Output chain.base ≡ false
+
+-- Of these chains three are base chains at these hooks, and no other is.
 abbrev pub AreBases : List Chain → (input forward output : List Rule) → Type 0
 AreBases chains input forward output =
     (chain : Chain) → IsIn chain chains
-    → (chain.base ≡ None)
+    → IsElsewhere chain
     ⊎ ((chain ≡ base_chain (codes "filter_INPUT") hook.Input input)
     ⊎ ((chain ≡ base_chain (codes "filter_FORWARD") hook.Forward forward)
     ⊎ (chain ≡ base_chain (codes "filter_OUTPUT") hook.Output output)))

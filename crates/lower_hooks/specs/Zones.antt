@@ -8,8 +8,7 @@ use Rattle.fw_model.specs.declared.zone.Zone.{Zone}
 use Rattle.fw_verdict.specs.Policies.{policies_at}
 use Rattle.fw_verdict.specs.Policies.End.{at_host, in_zone}
 use Rattle.fw_verdict.specs.Walk.{Walked, in_turn}
-use Rattle.fw_verdict.specs.FilterWay.{forwarded_end, to_host_end}
-use Rattle.fw_verdict.specs.Way.{decided_as, forward_walk, policies_before, policies_behind, zone_walk}
+use Rattle.fw_verdict.specs.Way.{decided_as, forward_walk, forwarded_end, policies_before, policies_behind, to_host_end, zone_walk}
 use Rattle.fw_verdict.specs.declared.policies.Stage.TheVariants as stage
 use Rattle.lower_hooks.specs.Work.{PoliciesStand, ZoneStands}
 use Rattle.nf_rules.specs.declared.ruleset.Ruleset.{Ruleset}
@@ -21,7 +20,7 @@ zone_to_host config zone packet =
     (policies_before config packet (in_zone (Some zone)) at_host
     ∷ zone_walk config packet (Some zone)
     ∷ policies_behind config packet (in_zone (Some zone)) at_host
-    ∷ to_host_end packet (Some zone)
+    ∷ to_host_end config packet (Some zone)
     ∷ [])
 
 -- from a zone to a zone
@@ -31,7 +30,7 @@ zone_to_zone config from to packet =
     (policies_before config packet (in_zone (Some from)) (in_zone (Some to))
     ∷ forward_walk (Some from) (Some to)
     ∷ policies_behind config packet (in_zone (Some from)) (in_zone (Some to))
-    ∷ forwarded_end (Some from)
+    ∷ forwarded_end config packet (Some from)
     ∷ [])
 
 -- from the host to a zone

@@ -61,12 +61,12 @@ fn push_rules(more: Seq<Rule>, rules: &mut Seq<Rule>) -> Result<(), Memory>
     Ok(())
 }
 
-/// The rules that all packets to the host meet.
-fn input_base(alloc: Global, dispatched: Seq<Rule>) -> Result<Seq<Rule>, Memory>
-    ensures { IfOk result (λ rules. rules ≡ early_rules ++ dispatched) }
+/// The rules that all packets to the host and all that are forwarded meet.
+fn input_base(alloc: Global, config: &Config, dispatched: Seq<Rule>) -> Result<Seq<Rule>, Memory>
+    ensures { IfOk result (λ rules. rules ≡ early_rules config.now ++ dispatched) }
 {
     let mut rules = Seq::new(alloc);
-    push_early(alloc, &mut rules)?;
+    push_early(alloc, config, &mut rules)?;
     push_rules(dispatched, &mut rules)?;
     Ok(rules)
 }
@@ -127,7 +127,7 @@ pub fn input_chains(alloc: Global, config: &Config, zones: &[&Zone]) -> Result<S
     ensures leads { IfOk result (λ chains. InputLeads config.now (lent zones.now) chains) }
 {
     let dispatched = dispatch(alloc, config, Direction::Ingress, "filter_INPUT_")?;
-    let rules = input_base(alloc, dispatched)?;
+    let rules = input_base(alloc, config, dispatched)?;
     let mut chains = one(
         alloc,
         base_chain(alloc, "filter_INPUT", Hook::Input, rules)?,
@@ -277,7 +277,7 @@ pub fn forward_chains(alloc: Global, config: &Config, zones: &[&Zone]) -> Result
     ensures leads { IfOk result (λ chains. ForwardLeads config.now (lent zones.now) chains) }
 {
     let dispatched = dispatch(alloc, config, Direction::Ingress, "filter_FORWARD_")?;
-    let rules = input_base(alloc, dispatched)?;
+    let rules = input_base(alloc, config, dispatched)?;
     let mut chains = one(
         alloc,
         base_chain(alloc, "filter_FORWARD", Hook::Forward, rules)?,

@@ -4,9 +4,10 @@ ghost use Rattle.lower_hooks.specs.Listed.{forward_rules, within_rules};
 
 use crate::policies::push_policies;
 use crate::rules::push_always;
+use crate::target::push_target;
 use fw_base::{Memory, Seq};
 use fw_model::{Config, Verdict, Zone};
-use fw_verdict::{End, Stage, stays_within, target_forwarded};
+use fw_verdict::{End, Stage, stays_within};
 use nf_rules::Rule;
 use std::alloc::Global;
 
@@ -37,6 +38,6 @@ pub fn forward_rules(
     push_policies(alloc, config, Stage::BeforeZone, one, other, &mut rules)?;
     push_within(alloc, from, to, &mut rules)?;
     push_policies(alloc, config, Stage::BehindZone, one, other, &mut rules)?;
-    push_always(alloc, target_forwarded(from.target), &mut rules)?;
+    push_target(alloc, config, "filter_FWD_", from, &mut rules)?;
     Ok(rules)
 }

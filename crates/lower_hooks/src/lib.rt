@@ -3,6 +3,7 @@
 #![tactic(auto)]
 
 mod chains;
+mod denied;
 mod early;
 mod forward;
 mod input;
@@ -11,8 +12,9 @@ mod names;
 mod output;
 mod policies;
 mod rules;
+mod target;
 
 pub use chains::{forward_chains, input_chains, output_chains};
 pub use input::has_walk;
-pub use laws::{hooks_lead_the_way, one_runs_at_each_hook};
+pub use laws::{hooks_decide, one_runs_at_each_hook};
 pub use policies::has_settings;

@@ -1,4 +1,4 @@
-//! The names of chains, in firewalld's manner. Those of the hooks go on with the name of a zone; a `/`, which no zone's name has, stands
+//! The names of chains, and what lines begin with, in firewalld's manner. Those of the hooks go on with the name of a zone; a `/`, which no zone's name has, stands
 //! between the names of two.
 ghost use Rattle.std.specs.Prelude.{◌≡◌, ◌++◌, IfOk, string_bytes};
 ghost use Rattle.lower_hooks.specs.Names.{pair_start};
@@ -20,6 +20,14 @@ pub fn pair_start(alloc: Global, from: &Text) -> Result<Text, Memory>
     ensures { IfOk result (λ made. made ≡ pair_start from.now) }
 {
     let string = format!(in alloc; "filter_FORWARD_{from}/")?;
+    Ok(Text::from_string(string))
+}
+
+/// What the line of a zone begins with: a text, the zone's name, and another text.
+pub fn zone_prefix(alloc: Global, front: &str, zone: &Text, end: &str) -> Result<Text, Memory>
+    ensures { IfOk result (λ made. made ≡ front.now ++ zone.now ++ end.now) }
+{
+    let string = format!(in alloc; "{front}{zone}{end}")?;
     Ok(Text::from_string(string))
 }
 
