@@ -1,5 +1,5 @@
 -- The compiled ruleset is one in which the hooks' chains work: the chains that they lead to are there.
-use Rattle.std.proofs.Common.{◌≡◌, ◌∙◌, ◌⊎◌, inl, inr, ℕ, Bool, true, ◌&&◌, List, [], ◌∷◌, ◌++◌, map, filter, Option, None, Some, refl, sym, ap, subst}
+use Rattle.std.proofs.Common.{◌≡◌, ◌∙◌, ◌⊎◌, inl, inr, ℕ, Bool, true, false, ◌&&◌, List, [], ◌∷◌, ◌++◌, map, filter, Option, None, Some, refl, sym, ap, subst}
 use Rattle.std.specs.Prelude.{codes}
 use Rattle.fw_model.specs.declared.config.Config.{Config}
 use Rattle.fw_model.specs.declared.policy.Policy.{Policy}
@@ -21,17 +21,30 @@ use Rattle.lower_blocks.specs.Blocks.{Told, block_of, walk_of}
 use Rattle.lower_blocks.specs.Blocks.Told.{of_policy, of_zone}
 use Rattle.lower_blocks.specs.Needed.{ActingPoliciesAreTold, IsEnd, all_told, is_needed, is_told}
 use Rattle.lower_blocks.proofs.There.{BlockIn, block_is_in}
+use Rattle.lower_changes.specs.Chains.{base_of}
 use Rattle.lower_changes.specs.Hooks.{SidesStand}
 use Rattle.lower_dispatch.specs.Uses.{IsUsed, is_in_use}
 use Rattle.lower_hooks.specs.Chains.{base_chain}
 use Rattle.lower_hooks.specs.Laws.{OneRunsAtEach}
 use Rattle.lower_hooks.specs.Settings.{has_walk}
-use Rattle.lower_hooks.specs.Stands.{AreBases, HasBases, Works}
+use Rattle.lower_hooks.specs.Stands.{AreBases, HasBases, IsElsewhere, Works}
 use Rattle.lower_hooks.specs.Work.{JumpDoes, PoliciesStand, ZoneStands}
 use Rattle.lower_zone.specs.Names.{block_name}
+use Rattle.nf_chains.specs.Hooks.{is_at}
+use Rattle.nf_rules.specs.declared.chain.Base.{Base}
 use Rattle.nf_rules.specs.declared.chain.Chain.{Chain}
 use Rattle.nf_rules.specs.declared.chain.Hook.TheVariants as hook
 use Rattle.nf_rules.specs.declared.ruleset.Ruleset.{Ruleset}
+
+-- it stands at none of the three hooks
+elsewhere : (chain : Chain) (base : Option Base) → chain.base ≡ base
+    → is_at hook.Input base ≡ false → is_at hook.Forward base ≡ false → is_at hook.Output base ≡ false
+    → IsElsewhere chain
+elsewhere chain base is input forward output = record {
+  input = ap (is_at hook.Input) is ∙ input;
+  forward = ap (is_at hook.Forward) is ∙ forward;
+  output = ap (is_at hook.Output) is ∙ output;
+}
 
 module _ (config : Config) (rules : Ruleset) (parts : HasParts config rules) where
   -- each block of settings does what its settings do
@@ -60,17 +73,17 @@ module _ (config : Config) (rules : Ruleset) (parts : HasParts config rules) whe
   are_bases laws chain there = by (each_stands laws config rules parts chain there)
     where
       by : StandsAs laws config rules parts chain
-          → (is_in_filter chain.base ≡ false)
+          → IsElsewhere chain
           ⊎ ((chain ≡ base_chain (codes "filter_INPUT") hook.Input parts.joined.input.rules)
           ⊎ ((chain ≡ base_chain (codes "filter_FORWARD") hook.Forward parts.joined.forward.rules)
           ⊎ (chain ≡ base_chain (codes "filter_OUTPUT") hook.Output parts.joined.output.rules)))
-      by (plain is) = inl (ap is_in_filter is)
+      by (plain is) = inl (elsewhere chain None is refl refl refl)
       by (at_input is) = inr (inl is)
       by (at_forward is) = inr (inr (inl is))
       by (at_output is) = inr (inr (inr is))
-      by (of_side side.Marked is among) = inl (ap is_in_filter is)
-      by (of_side side.Translated is among) = inl (ap is_in_filter is)
-      by (of_side side.Leaving is among) = inl (ap is_in_filter is)
+      by (of_side side.Marked is among) = inl (elsewhere chain (Some (base_of side.Marked)) is refl refl refl)
+      by (of_side side.Translated is among) = inl (elsewhere chain (Some (base_of side.Translated)) is refl refl refl)
+      by (of_side side.Leaving is among) = inl (elsewhere chain (Some (base_of side.Leaving)) is refl refl refl)
 
   module _ (acting : ActingPoliciesAreTold) where
     policies_stand : (at : Stage) (from to : End) → IsEnd (used_zones config) from → IsEnd (used_zones config) to
