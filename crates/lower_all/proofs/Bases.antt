@@ -1,12 +1,12 @@
 -- Which base chains there are: one at each hook of the filter, and at most one of each side outside it.
-use Rattle.std.proofs.Common.{◌≡◌, ◌∙◌, ◌⊎◌, inl, inr, Bool, true, false, List, [], ◌∷◌, ◌++◌, codes, Option, None, Some, is_some, refl, sym, ap, subst, subst₂}
+use Rattle.std.proofs.Common.{◌≡◌, ◌∙◌, inl, inr, true, false, List, [], ◌∷◌, ◌++◌, codes, Option, None, Some, is_some, refl, sym, ap, subst, subst₂}
 use Rattle.fw_model.specs.declared.config.Config.{Config}
 use Rattle.fw_model.specs.declared.zone.Zone.{Zone}
 use Rattle.fw_verdict.specs.declared.sides.Side.{Side}
 use Rattle.fw_verdict.specs.declared.sides.Side.TheVariants as side
 use Rattle.fw_zone.specs.Lists.{IsIn}
 use Rattle.lower_all.specs.Joined.{used_zones}
-use Rattle.lower_all.proofs.Among.{in_both, in_filter, of_filter}
+use Rattle.lower_all.proofs.Among.{in_both, in_filter}
 use Rattle.lower_all.proofs.Laws.{SideLaws}
 use Rattle.lower_all.proofs.Parts.{HasParts, are_side, each_chain, in_side, side_of, side_there}
 use Rattle.lower_blocks.proofs.Lists.{in_first, in_second, was_in}
@@ -93,9 +93,9 @@ module _ (laws : SideLaws) (config : Config) (rules : Ruleset) (parts : HasParts
   pub each_stands : (chain : Chain) → IsIn chain rules.chains → StandsAs chain
   each_stands =
       each_chain config rules parts StandsAs
-      (λ chain among. elim (parts.joined.input.base.only chain among) [ inl same ↦ at_input (sym same) | inr none ↦ plain none ])
-      (λ chain among. elim (parts.joined.forward.base.only chain among) [ inl same ↦ at_forward (sym same) | inr none ↦ plain none ])
-      (λ chain among. elim (parts.joined.output.base.only chain among) [ inl same ↦ at_output (sym same) | inr none ↦ plain none ])
+      (λ chain among. elim (parts.joined.input.base.only chain among) [ inl same ↦ at_input (sym same) | inr based ↦ plain based ])
+      (λ chain among. elim (parts.joined.forward.base.only chain among) [ inl same ↦ at_forward (sym same) | inr based ↦ plain based ])
+      (λ chain among. elim (parts.joined.output.base.only chain among) [ inl same ↦ at_output (sym same) | inr based ↦ plain based ])
       (λ chain among.
       let found = of_some_block config (all_told config (used_zones config)) parts.joined.settings parts.joined.blocks chain among in
       plain (found.is.stands.no_base chain found.chain_in))

@@ -1,5 +1,5 @@
 -- The chains, put together.
-use Rattle.std.proofs.Common.{◌≡◌, ◌∙◌, ℕ, List, [], ◌∷◌, ◌++◌, map, IsPermutation, refl, sym, ap, subst}
+use Rattle.std.proofs.Common.{◌≡◌, ◌∙◌, List, ◌∷◌, ◌++◌, map, IsPermutation, sym, ap, subst}
 use Rattle.std.specs.Prelude.{codes}
 use Rattle.fw_model.specs.declared.config.Config.{Config}
 use Rattle.fw_model.specs.declared.policy.Policy.{Policy}
@@ -7,13 +7,14 @@ use Rattle.fw_model.specs.declared.rules.Rules.{Rules}
 use Rattle.fw_model.specs.declared.zone.Zone.{Zone}
 use Rattle.fw_valid.specs.Valid.{AreWritten, IsValid}
 use Rattle.fw_valid.specs.Rules.{all_rules}
+use Rattle.fw_verdict.specs.declared.sides.Side.TheVariants as side
 use Rattle.fw_zone.specs.Lists.{IsIn}
 use Rattle.lower_all.specs.Joined.{AreJoined, AreOutside, used_zones}
 use Rattle.lower_all.specs.Ordered.{IsOrdered}
 use Rattle.lower_blocks.specs.Blocks.{AreBlocks}
 use Rattle.lower_blocks.specs.Needed.{all_told}
 use Rattle.lower_blocks.proofs.Lists.{in_first, in_map, in_second, was_in}
-use Rattle.lower_changes.specs.Sides.{IsWritten}
+use Rattle.lower_changes.specs.Sides.{IsSide, IsWritten}
 use Rattle.lower_dispatch.specs.Uses.{is_in_use}
 use Rattle.lower_hooks.specs.Chains.{ForwardWorks, InputWorks, OutputWorks}
 use Rattle.lower_hooks.specs.Leads.{ForwardLeads, InputLeads, OutputLeads}
@@ -38,6 +39,25 @@ is_written config valid = record {
   where
     of_all : (rules : Rules) → IsIn rules (all_rules config) → AreWritten rules
     of_all rules among = each_of AreWritten (all_rules config) valid.written rules among
+
+-- those of the three sides, one behind another
+pub outside_joined : (config : Config) (zones : List Zone) (marks targets masks second third : List Chain)
+    → (IsWritten config zones → IsSide config side.Marked zones marks)
+    → (IsWritten config zones → IsSide config side.Translated zones targets)
+    → (IsWritten config zones → IsSide config side.Leaving zones masks)
+    → second ≡ marks ++ targets
+    → third ≡ second ++ masks
+    → IsWritten config zones
+    → AreOutside config zones third
+outside_joined config zones marks targets masks second third marked translated leaving one two written = record {
+  marks = marks;
+  targets = targets;
+  masks = masks;
+  marked = marked written;
+  translated = translated written;
+  leaving = leaving written;
+  are = two ∙ ap (λ (list : List Chain). list ++ masks) one;
+}
 
 pub joined : (config : Config) (zones : List Zone) (inputs forwards outputs settings outside first second third fourth all : List Chain)
     → IsValid config

@@ -1,5 +1,5 @@
 -- A ruleset in which each chain is found by its name, and which has the chains of the hooks and of settings.
-use Rattle.std.proofs.Common.{◌≡◌, ◌∙◌, ℕ, List, [], ◌++◌, Option, None, Some, refl, sym, ap, subst}
+use Rattle.std.proofs.Common.{◌≡◌, ◌∙◌, List, ◌++◌, Some, sym, ap, subst}
 use Rattle.std.specs.Prelude.{IsSome}
 use Rattle.fw_hits.specs.Bindings.{default_zone}
 use Rattle.fw_model.specs.declared.config.Config.{Config}

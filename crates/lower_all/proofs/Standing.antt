@@ -1,7 +1,7 @@
 -- The compiled ruleset is sound: all that its rules name is there, and no path has more than five links.
-use Rattle.std.proofs.Common.{◌≡◌, ◌∙◌, ◌⊎◌, inl, inr, ◌≤◌, arith, ℕ, suc, Bool, true, List, [], ◌∷◌, ◌++◌, map, Option, None, Some, refl, sym, ap, subst}
-use Rattle.std.specs.Prelude.{IsTrue, codes, is_some}
-use Rattle.std.specs.List.{flat_map, list_all}
+use Rattle.std.proofs.Common.{◌≡◌, ◌∙◌, inl, inr, ◌≤◌, arith, ℕ, suc, true, List, [], ◌∷◌, ◌++◌, Option, None, Some, refl, sym, ap, subst}
+use Rattle.std.specs.Prelude.{codes, is_some}
+use Rattle.std.specs.List.{list_all}
 use Rattle.fw_model.specs.declared.config.Config.{Config}
 use Rattle.fw_model.specs.declared.zone.Zone.{Zone}
 use Rattle.fw_verdict.specs.Policies.{End, policies_at}
@@ -10,7 +10,7 @@ use Rattle.fw_verdict.specs.declared.policies.Stage.{Stage}
 use Rattle.fw_verdict.specs.declared.policies.Stage.TheVariants as stage
 use Rattle.fw_verdict.specs.declared.sides.Side.{Side}
 use Rattle.fw_zone.specs.Lists.{IsIn}
-use Rattle.lower_all.specs.Joined.{AreJoined, used_zones}
+use Rattle.lower_all.specs.Joined.{used_zones}
 use Rattle.lower_all.proofs.Among.{all_of_each, each_of_all, of_flat_map, of_map}
 use Rattle.lower_all.proofs.Called.{called_is}
 use Rattle.lower_all.proofs.Parts.{HasParts, are_side, block_there, each_chain, in_forwards, in_inputs, in_outputs, in_settings, same_chain, side_of, side_there}
@@ -19,19 +19,18 @@ use Rattle.lower_blocks.proofs.Lists.{in_map}
 use Rattle.lower_blocks.specs.Blocks.{Told, block_of}
 use Rattle.lower_blocks.specs.Blocks.Told.{of_policy, of_zone}
 use Rattle.lower_blocks.specs.Needed.{ActingPoliciesAreTold, IsEnd, all_told}
-use Rattle.lower_blocks.proofs.There.{BlockIn, OfBlock, block_is_in, of_some_block}
+use Rattle.lower_blocks.proofs.There.{block_is_in, of_some_block}
 use Rattle.lower_changes.specs.Stands.{SidesHold}
 use Rattle.lower_dispatch.specs.Uses.{IsChainName}
 use Rattle.lower_hooks.specs.Chains.{base_chain}
-use Rattle.lower_hooks.specs.Leads.{BaseLeads, ForwardLeads, HasLeads, InputLeads, IsForwardTarget, IsInputTarget, IsOutputTarget, IsPolicyChain, IsZoneChain, Leads, OutputLeads}
+use Rattle.lower_hooks.specs.Leads.{IsForwardTarget, IsInputTarget, IsOutputTarget, IsPolicyChain, IsZoneChain, Leads}
 use Rattle.lower_hooks.specs.Leads.IsForwardTarget.{before as before_forward, behind as behind_forward}
 use Rattle.lower_hooks.specs.Leads.IsInputTarget.{before as before_input, settings, behind as behind_input}
 use Rattle.lower_hooks.specs.Leads.IsOutputTarget.{before as before_output, behind as behind_output}
-use Rattle.lower_hooks.specs.Names.{forward_names, forward_start, from_names, input_start, names_of, output_start, pair_start, zone_names}
+use Rattle.lower_hooks.specs.Names.{forward_names, forward_start, from_names, input_start, output_start, pair_start, zone_names}
 use Rattle.lower_zone.specs.Forms.{chain_named}
 use Rattle.lower_zone.specs.Names.{block_name}
 use Rattle.nf_rules.specs.declared.chain.Chain.{Chain}
-use Rattle.nf_rules.specs.declared.chain.Hook.{Hook}
 use Rattle.nf_rules.specs.declared.chain.Hook.TheVariants as hook
 use Rattle.nf_rules.specs.declared.map.NfMap.{NfMap}
 use Rattle.nf_rules.specs.declared.ruleset.Ruleset.{Ruleset}

@@ -1,14 +1,12 @@
 -- The whole compiler: its rulesets can be installed, and do with every packet what the settings say.
-use Rattle.std.proofs.Common.{◌≡◌, ◌≢◌, ◌∙◌, ℕ, Bool, true, false, List, [], ◌∷◌, map, Option, None, Some, inl, inr, refl, sym, ap, subst, arith, Decides}
+use Rattle.std.proofs.Common.{◌≡◌, ◌≢◌, ℕ, Bool, true, false, List, [], ◌∷◌, map, Some, inl, inr, refl, sym, subst, arith}
 use Rattle.std.proofs.lemmas.Slice.Eq.{bytes_eq-Decides}
 use Rattle.std.specs.Prelude.{IsSome, if◌then◌else◌}
 use Rattle.std.specs.List.{AllPairs}
 use Rattle.std.specs.Str.{bytes_eq}
-use Rattle.fw_hits.specs.Bindings.{default_zone}
 use Rattle.fw_model.specs.declared.config.Config.{Config}
 use Rattle.fw_model.specs.declared.runtime.Runtime.{Runtime}
 use Rattle.fw_model.specs.declared.zone.Zone.{Zone}
-use Rattle.fw_valid.specs.Names.{zone_names}
 use Rattle.fw_valid.specs.Valid.{IsValid}
 use Rattle.fw_zone.specs.Lists.{IsIn}
 use Rattle.lower_all.specs.Compiled.{IsCompiled, IsMade}

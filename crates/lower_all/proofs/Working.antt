@@ -1,8 +1,7 @@
 -- The compiled ruleset is one in which the hooks' chains work: the chains that they lead to are there.
-use Rattle.std.proofs.Common.{◌≡◌, ◌∙◌, ◌⊎◌, inl, inr, ℕ, Bool, true, false, ◌&&◌, List, [], ◌∷◌, ◌++◌, map, filter, Option, None, Some, refl, sym, ap, subst}
+use Rattle.std.proofs.Common.{◌≡◌, ◌∙◌, ◌⊎◌, inl, inr, true, false, map, filter, Option, None, Some, refl, ap}
 use Rattle.std.specs.Prelude.{codes}
 use Rattle.fw_model.specs.declared.config.Config.{Config}
-use Rattle.fw_model.specs.declared.policy.Policy.{Policy}
 use Rattle.fw_model.specs.declared.zone.Zone.{Zone}
 use Rattle.fw_verdict.specs.Policies.{End, policies_at}
 use Rattle.fw_verdict.specs.Policies.End.{at_host, in_zone}
@@ -10,24 +9,24 @@ use Rattle.fw_verdict.specs.declared.policies.Stage.{Stage}
 use Rattle.fw_verdict.specs.declared.policies.Stage.TheVariants as stage
 use Rattle.fw_verdict.specs.declared.sides.Side.TheVariants as side
 use Rattle.fw_zone.specs.Lists.{IsIn}
-use Rattle.lower_all.specs.Joined.{AreJoined, used_zones}
+use Rattle.lower_all.specs.Joined.{used_zones}
 use Rattle.lower_all.proofs.Among.{both, in_filter, of_filter}
 use Rattle.lower_all.proofs.Bases.{StandsAs, at_postrouting, at_prerouting, each_stands, side_works}
 use Rattle.lower_all.proofs.Bases.StandsAs.{at_forward, at_input, at_output, of_side, plain}
 use Rattle.lower_all.proofs.Laws.{SideLaws}
 use Rattle.lower_all.proofs.Parts.{HasParts, block_there, forwards_there, in_forwards, in_inputs, in_outputs, inputs_there, outputs_there}
-use Rattle.lower_blocks.proofs.Lists.{in_first, in_map, in_second}
+use Rattle.lower_blocks.proofs.Lists.{in_first, in_map}
 use Rattle.lower_blocks.specs.Blocks.{Told, block_of, walk_of}
 use Rattle.lower_blocks.specs.Blocks.Told.{of_policy, of_zone}
 use Rattle.lower_blocks.specs.Needed.{ActingPoliciesAreTold, IsEnd, all_told, is_needed, is_told}
-use Rattle.lower_blocks.proofs.There.{BlockIn, block_is_in}
+use Rattle.lower_blocks.proofs.There.{block_is_in}
 use Rattle.lower_changes.specs.Chains.{base_of}
 use Rattle.lower_changes.specs.Hooks.{SidesStand}
 use Rattle.lower_dispatch.specs.Uses.{IsUsed, is_in_use}
 use Rattle.lower_hooks.specs.Chains.{base_chain}
 use Rattle.lower_hooks.specs.Laws.{OneRunsAtEach}
 use Rattle.lower_hooks.specs.Settings.{has_walk}
-use Rattle.lower_hooks.specs.Stands.{AreBases, HasBases, IsElsewhere, Works}
+use Rattle.lower_hooks.specs.Stands.{AreBases, IsElsewhere, Works}
 use Rattle.lower_hooks.specs.Work.{JumpDoes, PoliciesStand, ZoneStands}
 use Rattle.lower_zone.specs.Names.{block_name}
 use Rattle.nf_chains.specs.Hooks.{is_at}
