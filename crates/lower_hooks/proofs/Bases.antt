@@ -6,7 +6,7 @@ use Rattle.std.specs.Ordering.{is_lt}
 use Rattle.std.proofs.lemmas.Cmp.{int_cmp_total, nat_list_cmp_total, on_total, then_total, tied_itself}
 use Rattle.fw_zone.specs.Lists.{IsIn}
 use Rattle.lower_hooks.specs.Chains.{base_chain}
-use Rattle.lower_hooks.specs.Stands.{AreBases, HasBases}
+use Rattle.lower_hooks.specs.Stands.{AreBases, HasBases, IsElsewhere}
 use Rattle.nf_chains.specs.Hooks.{first_of, is_at, next_at, priority, run_order, runs_before, runs_behind}
 use Rattle.nf_rules.specs.declared.chain.Chain.{Chain}
 use Rattle.nf_rules.specs.declared.chain.Hook.{Hook}
@@ -83,6 +83,10 @@ module _ (at : Hook) where
         never chain (inl other) = ap (λ (hit : Bool). hit && runs_before base chain) other
         never chain (inr same) = and_never (is_at at chain.base) (runs_before base chain) (ap (runs_before base) same ∙ not_itself base)
 
+-- a chain that is no base chain runs at no hook
+pub plain_elsewhere : (chain : Chain) → chain.base ≡ None → IsElsewhere chain
+plain_elsewhere chain none = record { input = ap (is_at hook.Input) none; forward = ap (is_at hook.Forward) none; output = ap (is_at hook.Output) none }
+
 module _ (rules : Ruleset) (input forward output : List Rule) (are : AreBases rules.chains input forward output) where
   abbrev pub one_input : Chain
   one_input = base_chain (codes "filter_INPUT") hook.Input input
@@ -94,16 +98,13 @@ module _ (rules : Ruleset) (input forward output : List Rule) (are : AreBases ru
   one_output = base_chain (codes "filter_OUTPUT") hook.Output output
 
   abbrev IsOne : Chain → Type 0
-  IsOne chain = (chain.base ≡ None) ⊎ ((chain ≡ one_input) ⊎ ((chain ≡ one_forward) ⊎ (chain ≡ one_output)))
-
-  no_base : (at : Hook) (chain : Chain) → chain.base ≡ None → is_at at chain.base ≡ false
-  no_base at chain none = ap (is_at at) none
+  IsOne chain = IsElsewhere chain ⊎ ((chain ≡ one_input) ⊎ ((chain ≡ one_forward) ⊎ (chain ≡ one_output)))
 
   input_fits : Fits hook.Input one_input rules.chains
   input_fits chain there = fits (are chain there)
     where
       fits : IsOne chain → (is_at hook.Input chain.base ≡ false) ⊎ (chain ≡ one_input)
-      fits (inl none) = inl (no_base hook.Input chain none)
+      fits (inl elsewhere) = inl elsewhere.input
       fits (inr (inl same)) = inr same
       fits (inr (inr (inl same))) = inl (ap (λ (one : Chain). is_at hook.Input one.base) same)
       fits (inr (inr (inr same))) = inl (ap (λ (one : Chain). is_at hook.Input one.base) same)
@@ -112,7 +113,7 @@ module _ (rules : Ruleset) (input forward output : List Rule) (are : AreBases ru
   forward_fits chain there = fits (are chain there)
     where
       fits : IsOne chain → (is_at hook.Forward chain.base ≡ false) ⊎ (chain ≡ one_forward)
-      fits (inl none) = inl (no_base hook.Forward chain none)
+      fits (inl elsewhere) = inl elsewhere.forward
       fits (inr (inl same)) = inl (ap (λ (one : Chain). is_at hook.Forward one.base) same)
       fits (inr (inr (inl same))) = inr same
       fits (inr (inr (inr same))) = inl (ap (λ (one : Chain). is_at hook.Forward one.base) same)
@@ -121,34 +122,14 @@ module _ (rules : Ruleset) (input forward output : List Rule) (are : AreBases ru
   output_fits chain there = fits (are chain there)
     where
       fits : IsOne chain → (is_at hook.Output chain.base ≡ false) ⊎ (chain ≡ one_output)
-      fits (inl none) = inl (no_base hook.Output chain none)
+      fits (inl elsewhere) = inl elsewhere.output
       fits (inr (inl same)) = inl (ap (λ (one : Chain). is_at hook.Output one.base) same)
       fits (inr (inr (inl same))) = inl (ap (λ (one : Chain). is_at hook.Output one.base) same)
       fits (inr (inr (inr same))) = inr same
 
-  before_fits : (chain : Chain) → IsIn chain rules.chains → (is_at hook.Prerouting chain.base && true) ≡ false
-  before_fits chain there = fits (are chain there)
-    where
-      fits : IsOne chain → (is_at hook.Prerouting chain.base && true) ≡ false
-      fits (inl none) = ap (λ (hit : Bool). hit && true) (no_base hook.Prerouting chain none)
-      fits (inr (inl same)) = ap (λ (one : Chain). is_at hook.Prerouting one.base && true) same
-      fits (inr (inr (inl same))) = ap (λ (one : Chain). is_at hook.Prerouting one.base && true) same
-      fits (inr (inr (inr same))) = ap (λ (one : Chain). is_at hook.Prerouting one.base && true) same
-
-  behind_fits : (chain : Chain) → IsIn chain rules.chains → (is_at hook.Postrouting chain.base && true) ≡ false
-  behind_fits chain there = fits (are chain there)
-    where
-      fits : IsOne chain → (is_at hook.Postrouting chain.base && true) ≡ false
-      fits (inl none) = ap (λ (hit : Bool). hit && true) (no_base hook.Postrouting chain none)
-      fits (inr (inl same)) = ap (λ (one : Chain). is_at hook.Postrouting one.base && true) same
-      fits (inr (inr (inl same))) = ap (λ (one : Chain). is_at hook.Postrouting one.base && true) same
-      fits (inr (inr (inr same))) = ap (λ (one : Chain). is_at hook.Postrouting one.base && true) same
-
   pub bases_run : IsIn one_input rules.chains → IsIn one_forward rules.chains → IsIn one_output rules.chains → HasBases rules input forward output
   bases_run has_input has_forward has_output = record {
-    at_prerouting = none_runs hook.Prerouting None rules.chains before_fits;
     at_input = record { first = one_runs hook.Input one_input refl rules.chains input_fits has_input; last = no_other hook.Input one_input refl rules.chains input_fits };
     at_forward = record { first = one_runs hook.Forward one_forward refl rules.chains forward_fits has_forward; last = no_other hook.Forward one_forward refl rules.chains forward_fits };
     at_output = record { first = one_runs hook.Output one_output refl rules.chains output_fits has_output; last = no_other hook.Output one_output refl rules.chains output_fits };
-    at_postrouting = none_runs hook.Postrouting None rules.chains behind_fits;
   }

@@ -20,14 +20,16 @@ use Rattle.fw_verdict.specs.Policies.{decided_by_target}
 use Rattle.fw_verdict.specs.Walk.{Walked, nothing, or_then, silently, walk}
 use Rattle.fw_model.specs.declared.zone.ZoneTarget.{ZoneTarget}
 use Rattle.fw_model.specs.declared.zone.ZoneTarget.TheVariants as zone_target
-use Rattle.fw_verdict.specs.FilterWay.{early_items}
-use Rattle.fw_verdict.specs.Way.{target_forwarded, is_known, is_invalid, known_item, lo_walk}
-use Rattle.lower_hooks.specs.Rules.{always, default_rules, early_rules, known_rules, lo_out, where_is}
+use Rattle.fw_verdict.specs.Denied.{denial, invalid_prefix, is_told}
+use Rattle.fw_verdict.specs.Items.{accepted}
+use Rattle.fw_verdict.specs.Way.{early_items, target_forwarded, is_known, is_invalid, known_item, lo_walk}
+use Rattle.lower_hooks.specs.Rules.{always, denial_rules, early_rules, icmp_rules, invalid_rules, known_rules, lo_out, where_is}
+use Rattle.lower_hooks.proofs.Lines.{denial_does, line_when}
 use Rattle.lower_zone.proofs.Alternatives.{each_decides}
 use Rattle.lower_zone.proofs.Sequences.{both_do}
 use Rattle.lower_zone.proofs.Tells.{tells_icmp}
 use Rattle.lower_zone.specs.Evaluates.{Meeting, behind_lines}
-use Rattle.lower_zone.specs.Forms.{each, icmp_alternatives, statement}
+use Rattle.lower_zone.specs.Forms.{each, icmp_alternatives, is, statement}
 use Rattle.lower_zone.specs.Verdicts.{can_decide}
 use Rattle.lower_zone.specs.Work.{Do}
 use Rattle.nf_chains.specs.Moments.{Moment}
@@ -51,6 +53,10 @@ target_can target.Continue chosen packet is = cc
 target_can target.Accept chosen packet is = subst (λ (one : Verdict). can_decide one packet ≡ true) (there_is verdict.Accept chosen is) refl
 target_can target.Reject chosen packet is = subst (λ (one : Verdict). can_decide one packet ≡ true) (there_is (verdict.Reject IcmpxAdminProhibited) chosen is) refl
 target_can target.Drop chosen packet is = subst (λ (one : Verdict). can_decide one packet ≡ true) (there_is verdict.Drop chosen is) refl
+
+and_true : (hit : Bool) → (hit && true) ≡ hit
+and_true true = refl
+and_true false = refl
 
 hit_so : (hit : Bool) (chosen : Verdict) → (if ((hit && true) || false) && true then silently (Some chosen) else nothing) ≡ when hit chosen
 hit_so true chosen = refl
@@ -106,35 +112,53 @@ module _ (table : Ruleset) (leaving : Option (List ℕ)) where
   abbrev behind : Walked → Walked → Walked
   behind one other = or_then one.decided one.logs other
 
-  early_are : (of : CtState) (translated lo : Bool)
-      → behind (behind (behind (when (is_known of) verdict.Accept) (when translated verdict.Accept)) (when lo verdict.Accept)) (when (is_same_state of state.Invalid) verdict.Drop)
-      ≡ behind (when (is_known of) verdict.Accept) (behind (when translated verdict.Accept) (behind (when lo verdict.Accept) (behind (when (is_invalid of) verdict.Drop) nothing)))
-  early_are state.Established translated lo = refl
-  early_are state.Related translated lo = refl
-  early_are state.New true lo = refl
-  early_are state.New false true = refl
-  early_are state.New false false = refl
-  early_are state.Invalid true lo = refl
-  early_are state.Invalid false true = refl
-  early_are state.Invalid false false = refl
+  -- packets of no connection
+  abbrev told : Bool → Walked
+  told hit = line_when hit (denial invalid_prefix)
+
+  pub invalid_does : (config : Config) (now : Moment)
+      → Do table leaving (invalid_rules config) now
+      (behind (told (is_same_state now.packet.state state.Invalid && is_told config.log_denied now.packet.pkt)) (when (is_same_state now.packet.state state.Invalid) verdict.Drop))
+  invalid_does config now =
+      let invalid = is_same_state now.packet.state state.Invalid in
+      let line = told (invalid && is_told config.log_denied now.packet.pkt) in
+      then_does (denial_rules (is (test.State state.Invalid) ∷ []) config.log_denied invalid_prefix) (where_is (test.State state.Invalid) verdict.Drop) now line (when invalid verdict.Drop)
+      (denial_does table leaving (is (test.State state.Invalid) ∷ []) config.log_denied invalid_prefix now invalid (and_true invalid))
+      (λ count. where_does (test.State state.Invalid) verdict.Drop (behind_lines line.logs count now) invalid refl refl)
+
+  early_are : (of : CtState) (translated lo line : Bool)
+      → behind (behind (behind (when (is_known of) verdict.Accept) (when translated verdict.Accept)) (when lo verdict.Accept))
+      (behind (told (is_same_state of state.Invalid && line)) (when (is_same_state of state.Invalid) verdict.Drop))
+      ≡ behind (when (is_known of) verdict.Accept) (behind (when translated verdict.Accept) (behind (when lo verdict.Accept)
+      (behind (told (is_invalid of && line)) (behind (when (is_invalid of) verdict.Drop) nothing))))
+  early_are state.Established translated lo line = refl
+  early_are state.Related translated lo line = refl
+  early_are state.New true lo line = refl
+  early_are state.New false true line = refl
+  early_are state.New false false line = refl
+  early_are state.Invalid true lo line = refl
+  early_are state.Invalid false true line = refl
+  early_are state.Invalid false false true = refl
+  early_are state.Invalid false false false = refl
 
   -- what is decided first of packets to the host and of those that are forwarded
-  pub early_does : (now : Moment) → Do table leaving early_rules now (walk early_items now.packet)
-  early_does now =
+  pub early_does : (config : Config) (now : Moment) → Do table leaving (early_rules config) now (walk (early_items config) now.packet)
+  early_does config now =
       let known = when (is_known now.packet.state) verdict.Accept in
       let translated = when now.packet.dnat verdict.Accept in
       let lo = when (came_by (codes "lo") now.packet.origin) verdict.Accept in
-      let invalid = when (is_same_state now.packet.state state.Invalid) verdict.Drop in
-      subst (λ (walked : Walked). Do table leaving early_rules now walked) (early_are now.packet.state now.packet.dnat (came_by (codes "lo") now.packet.origin))
-      (then_does (known_rules ++ where_is test.Dnat verdict.Accept ++ where_is (test.In (codes "lo")) verdict.Accept) (where_is (test.State state.Invalid) verdict.Drop) now
-      (behind (behind known translated) lo) invalid
+      let invalid = is_same_state now.packet.state state.Invalid in
+      subst (λ (walked : Walked). Do table leaving (early_rules config) now walked)
+      (early_are now.packet.state now.packet.dnat (came_by (codes "lo") now.packet.origin) (is_told config.log_denied now.packet.pkt))
+      (then_does (known_rules ++ where_is test.Dnat verdict.Accept ++ where_is (test.In (codes "lo")) verdict.Accept) (invalid_rules config) now
+      (behind (behind known translated) lo) (behind (told (invalid && is_told config.log_denied now.packet.pkt)) (when invalid verdict.Drop))
       (then_does (known_rules ++ where_is test.Dnat verdict.Accept) (where_is (test.In (codes "lo")) verdict.Accept) now
       (behind known translated) lo
       (then_does known_rules (where_is test.Dnat verdict.Accept) now known translated
       (known_does now)
       (λ count. where_does test.Dnat verdict.Accept (behind_lines known.logs count now) now.packet.dnat refl refl))
       (λ count. where_does (test.In (codes "lo")) verdict.Accept (behind_lines (behind known translated).logs count now) (came_by (codes "lo") now.packet.origin) (came_by_lo now.packet.origin) refl))
-      (λ count. where_does (test.State state.Invalid) verdict.Drop (behind_lines (behind (behind known translated) lo).logs count now) (is_same_state now.packet.state state.Invalid) refl refl))
+      (λ count. invalid_does config (behind_lines (behind (behind known translated) lo).logs count now)))
 
 -- what is decided first of packets of the host
 abbrev behind_known : Bool → Walked
@@ -162,19 +186,16 @@ forwarded_can zone_target.Drop packet = refl
 forwarded_can zone_target.Reject packet = refl
 forwarded_can zone_target.Default packet = refl
 
-or_rejected : (icmp : Bool) → or_then (if icmp && true then silently (Some verdict.Accept) else nothing).decided (if icmp && true then silently (Some verdict.Accept) else nothing).logs (silently (Some (verdict.Reject IcmpxAdminProhibited)))
-    ≡ silently (Some (if icmp then verdict.Accept else verdict.Reject IcmpxAdminProhibited))
-or_rejected true = refl
-or_rejected false = refl
+icmp_walk : (icmp : Bool) → (if icmp && true then silently (Some verdict.Accept) else nothing) ≡ behind_known icmp
+icmp_walk true = refl
+icmp_walk false = refl
 
-pub default_does : (config : Config) (table : Ruleset) (leaving : Option (List ℕ)) (now : Moment)
+-- ICMP is accepted
+pub icmp_does : (config : Config) (table : Ruleset) (leaving : Option (List ℕ)) (now : Moment)
     → Meeting config table now
-    → Do table leaving default_rules now (silently (Some (if is_icmp now.packet then verdict.Accept else verdict.Reject IcmpxAdminProhibited)))
-default_does config table leaving now meeting =
+    → Do table leaving icmp_rules now (walk (accepted is_icmp ∷ []) now.packet)
+icmp_does config table leaving now meeting =
     let hit = λ (icmp : Bool). if icmp && true then silently (Some verdict.Accept) else nothing in
-    subst (λ (walked : Walked). Do table leaving default_rules now walked) (or_rejected (is_icmp now.packet))
-    (then_does table leaving (where_is (test.Proto icmp_protocol) verdict.Accept ++ where_is (test.Proto icmpv6_protocol) verdict.Accept) (always (verdict.Reject IcmpxAdminProhibited)) now
-    (hit (is_icmp now.packet)) (silently (Some (verdict.Reject IcmpxAdminProhibited)))
+    subst (λ (walked : Walked). Do table leaving icmp_rules now walked) (icmp_walk (is_icmp now.packet))
     (subst (λ (icmp : Bool). Do table leaving (each (statement verdict.Accept ∷ []) icmp_alternatives) now (hit icmp)) (sym ((tells_icmp config).holds table leaving now meeting))
     (each_decides table leaving verdict.Accept icmp_alternatives now))
-    (λ count. always_does table leaving (verdict.Reject IcmpxAdminProhibited) (behind_lines (hit (is_icmp now.packet)).logs count now) refl))

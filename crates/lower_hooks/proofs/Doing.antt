@@ -2,7 +2,6 @@
 use Rattle.std.proofs.Common.{◌≡◌, ℕ, Bool, true, false, List, [], ◌∷◌, Option, None, Some, inl, inr, refl, sym, subst}
 use Rattle.std.specs.Prelude.{if◌then◌else◌}
 use Rattle.std.specs.List.{flat_map}
-use Rattle.fw_addr.specs.declared.reject.RejectType.TheVariants.{IcmpxAdminProhibited}
 use Rattle.fw_model.specs.declared.config.Config.{Config}
 use Rattle.fw_model.specs.declared.outcome.Verdict.{Verdict}
 use Rattle.fw_model.specs.declared.outcome.Verdict.TheVariants as verdict
@@ -14,18 +13,19 @@ use Rattle.fw_model.specs.declared.zone.ZoneTarget.TheVariants as target
 use Rattle.fw_verdict.specs.Items.{items}
 use Rattle.fw_verdict.specs.Policies.{decided_by_target, policies_at, policy_walk, walk_all}
 use Rattle.fw_verdict.specs.Policies.End.{at_host, in_zone}
-use Rattle.fw_verdict.specs.Walk.{Walked, nothing, silently, walk}
-use Rattle.fw_verdict.specs.FilterWay.{target_to_host}
-use Rattle.fw_verdict.specs.Way.{decided_as, forward_walk, policies_before, policies_behind, stays_within, target_forwarded, zone_walk}
+use Rattle.fw_verdict.specs.Walk.{Walked, in_turn, nothing, silently, walk}
+use Rattle.fw_verdict.specs.Denied.{denial, denial_item, drop_prefix, final_prefix, forward_front, input_front, is_told, reject_prefix}
+use Rattle.fw_verdict.specs.Way.{decided_as, forward_walk, forwarded_end, icmp_accepted, policies_before, policies_behind, stays_within, target_forwarded, target_lines, to_host_end, zone_walk}
 use Rattle.fw_verdict.specs.declared.policies.Stage.TheVariants as stage
-use Rattle.lower_hooks.specs.Listed.{decided_rules, forward_rules, input_rules, jump_where, output_rules, policy_jump, policy_rules, rules_at, target_rules, within_rules, zone_jump}
-use Rattle.lower_hooks.specs.Rules.{always}
+use Rattle.lower_hooks.specs.Listed.{decided_rules, forward_rules, icmp_first, input_end, input_rules, jump_where, output_rules, policy_jump, policy_rules, rules_at, target_line, target_rules, within_rules, zone_jump}
+use Rattle.lower_hooks.specs.Rules.{always, denial_rules}
 use Rattle.lower_hooks.specs.Settings.{has_settings, has_walk}
 use Rattle.lower_hooks.specs.Work.{DoIn, JumpDoes, PoliciesStand, PolicyStands}
 use Rattle.lower_hooks.specs.Zones.{ForwardStands, InputStands, OutputStands, host_to_zone, zone_to_host, zone_to_zone}
-use Rattle.lower_hooks.proofs.Deciding.{always_does, default_does, forwarded_can, target_can}
+use Rattle.lower_hooks.proofs.Deciding.{always_does, forwarded_can, icmp_does, target_can}
+use Rattle.lower_hooks.proofs.Lines.{denial_does, line_when}
 use Rattle.lower_hooks.proofs.Idle.{idle, idle_zone}
-use Rattle.lower_hooks.proofs.Works.{does_both, does_four, does_nothing, does_three, does_two, does_where, jump_does}
+use Rattle.lower_hooks.proofs.Works.{does_both, does_four, does_nothing, does_three, does_two, does_where, jump_does, or_nothing}
 use Rattle.lower_zone.proofs.Sequences.{nothing_done}
 use Rattle.lower_zone.specs.Names.{block_name, policy_block, zone_block}
 use Rattle.lower_zone.specs.Verdicts.{can_decide}
@@ -51,11 +51,38 @@ module _ (config : Config) where
     jump_in false name walked does none table leaving now holds meeting =
         subst (λ (one : Walked). Do table leaving [] now one) (sym (none now.packet refl)) (nothing_done table leaving now)
 
-    target_in : (chosen : ZoneTarget) → DoIn config Holds (target_rules chosen) (λ packet. decided_as (target_to_host chosen packet))
-    target_in target.Accept = always_in verdict.Accept (λ packet. refl)
-    target_in target.Drop = always_in verdict.Drop (λ packet. refl)
-    target_in target.Reject = always_in (verdict.Reject IcmpxAdminProhibited) (λ packet. refl)
-    target_in target.Default = λ table leaving now holds meeting. default_does config table leaving now meeting
+    -- lines of what is denied
+    denial_in : (prefix : List ℕ) → DoIn config Holds (denial_rules [] config.log_denied prefix) (walk (denial_item config prefix ∷ []))
+    denial_in prefix table leaving now holds meeting =
+        let line = line_when (is_told config.log_denied now.packet.pkt) (denial prefix) in
+        subst (λ (walked : Walked). Do table leaving (denial_rules [] config.log_denied prefix) now walked) (sym (or_nothing line.decided line.logs))
+        (denial_does table leaving [] config.log_denied prefix now true refl)
+
+    line_in : (front name : List ℕ) (chosen : ZoneTarget) → DoIn config Holds (target_line config front name chosen) (walk (target_lines config front name chosen))
+    line_in front name target.Accept = does_nothing config Holds
+    line_in front name target.Drop = denial_in (drop_prefix front name)
+    line_in front name target.Reject = denial_in (reject_prefix front name)
+    line_in front name target.Default = denial_in final_prefix
+
+    -- a target behind its line
+    target_in : (front : List ℕ) (zone : Zone)
+        → DoIn config Holds (target_rules config front zone) (λ packet. in_turn (walk (target_lines config front zone.name zone.target) packet ∷ decided_as (target_forwarded zone.target) ∷ []))
+    target_in front zone =
+        does_two config Holds (target_line config front zone.name zone.target) (always (target_forwarded zone.target))
+        (walk (target_lines config front zone.name zone.target)) (λ packet. decided_as (target_forwarded zone.target))
+        (line_in front zone.name zone.target) (always_in (target_forwarded zone.target) (forwarded_can zone.target))
+
+    icmp_in : (chosen : ZoneTarget) → DoIn config Holds (icmp_first chosen) (walk (icmp_accepted chosen))
+    icmp_in target.Accept = does_nothing config Holds
+    icmp_in target.Drop = does_nothing config Holds
+    icmp_in target.Reject = does_nothing config Holds
+    icmp_in target.Default = λ table leaving now holds meeting. icmp_does config table leaving now meeting
+
+    end_in : (zone : Zone) → DoIn config Holds (input_end config zone) (λ packet. to_host_end config packet (Some zone))
+    end_in zone =
+        does_both config Holds (icmp_first zone.target) (target_rules config input_front zone)
+        (walk (icmp_accepted zone.target)) (λ packet. in_turn (walk (target_lines config input_front zone.name zone.target) packet ∷ decided_as (target_forwarded zone.target) ∷ []))
+        (icmp_in zone.target) (target_in input_front zone)
 
     within_in : (stays : Bool) → DoIn config Holds (if stays then always verdict.Accept else []) (λ packet. if stays then decided_as verdict.Accept else nothing)
     within_in true = always_in verdict.Accept (λ packet. refl)
@@ -83,14 +110,14 @@ module _ (config : Config) where
   input_does zone =
       let Holds = InputStands config zone in
       does_four config Holds
-      (rules_at config stage.BeforeZone (in_zone (Some zone)) at_host) (zone_jump zone) (rules_at config stage.BehindZone (in_zone (Some zone)) at_host) (target_rules zone.target)
+      (rules_at config stage.BeforeZone (in_zone (Some zone)) at_host) (zone_jump zone) (rules_at config stage.BehindZone (in_zone (Some zone)) at_host) (input_end config zone)
       (λ packet. policies_before config packet (in_zone (Some zone)) at_host) (λ packet. zone_walk config packet (Some zone))
-      (λ packet. policies_behind config packet (in_zone (Some zone)) at_host) (λ packet. decided_as (target_to_host zone.target packet))
+      (λ packet. policies_behind config packet (in_zone (Some zone)) at_host) (λ packet. to_host_end config packet (Some zone))
       (does_where config _ Holds _ _ (λ table stands. stands.before) (policies_do (policies_at config stage.BeforeZone (in_zone (Some zone)) at_host)))
       (jump_in Holds (has_walk zone) (block_name (zone_block zone.name)) (λ packet. zone_walk config packet (Some zone))
       (λ table stands. stands.settings) (idle_zone config zone))
       (does_where config _ Holds _ _ (λ table stands. stands.behind) (policies_do (policies_at config stage.BehindZone (in_zone (Some zone)) at_host)))
-      (target_in Holds zone.target)
+      (end_in Holds zone)
 
   -- from a zone to a zone
   pub forward_does : (from to : Zone) → DoIn config (ForwardStands config from to) (forward_rules config from to) (zone_to_zone config from to)
@@ -98,13 +125,13 @@ module _ (config : Config) where
       let Holds = ForwardStands config from to in
       does_four config Holds
       (rules_at config stage.BeforeZone (in_zone (Some from)) (in_zone (Some to))) (within_rules from to)
-      (rules_at config stage.BehindZone (in_zone (Some from)) (in_zone (Some to))) (always (target_forwarded from.target))
+      (rules_at config stage.BehindZone (in_zone (Some from)) (in_zone (Some to))) (target_rules config forward_front from)
       (λ packet. policies_before config packet (in_zone (Some from)) (in_zone (Some to))) (λ packet. forward_walk (Some from) (Some to))
-      (λ packet. policies_behind config packet (in_zone (Some from)) (in_zone (Some to))) (λ packet. decided_as (target_forwarded from.target))
+      (λ packet. policies_behind config packet (in_zone (Some from)) (in_zone (Some to))) (λ packet. forwarded_end config packet (Some from))
       (does_where config _ Holds _ _ (λ table stands. stands.before) (policies_do (policies_at config stage.BeforeZone (in_zone (Some from)) (in_zone (Some to)))))
       (within_in Holds (stays_within (Some from) (Some to)))
       (does_where config _ Holds _ _ (λ table stands. stands.behind) (policies_do (policies_at config stage.BehindZone (in_zone (Some from)) (in_zone (Some to)))))
-      (always_in Holds (target_forwarded from.target) (forwarded_can from.target))
+      (target_in Holds forward_front from)
 
   -- from the host to a zone
   pub output_does : (zone : Zone) → DoIn config (OutputStands config zone) (output_rules config zone) (host_to_zone config zone)

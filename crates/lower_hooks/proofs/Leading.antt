@@ -5,14 +5,17 @@ use Rattle.std.specs.Prelude.{codes, if◌then◌else◌, is_some}
 use Rattle.std.specs.List.{flat_map, list_all}
 use Rattle.fw_addr.specs.Protocols.{icmp_protocol, icmpv6_protocol}
 use Rattle.fw_addr.specs.declared.packet.CtState.TheVariants as state
-use Rattle.fw_addr.specs.declared.reject.RejectType.TheVariants.{IcmpxAdminProhibited}
+use Rattle.fw_addr.specs.declared.log.LogLine.{LogLine}
 use Rattle.fw_model.specs.declared.config.Config.{Config}
+use Rattle.fw_model.specs.declared.config.LogDenied.{LogDenied}
+use Rattle.fw_model.specs.declared.config.LogDenied.TheVariants as denied
 use Rattle.fw_model.specs.declared.outcome.Verdict.{Verdict}
 use Rattle.fw_model.specs.declared.outcome.Verdict.TheVariants as verdict
 use Rattle.fw_model.specs.declared.policy.Policy.{Policy}
 use Rattle.fw_model.specs.declared.zone.Zone.{Zone}
 use Rattle.fw_model.specs.declared.zone.ZoneTarget.{ZoneTarget}
 use Rattle.fw_model.specs.declared.zone.ZoneTarget.TheVariants as target
+use Rattle.fw_verdict.specs.Denied.{denial, drop_prefix, final_prefix, forward_front, input_front, invalid_prefix, reject_prefix}
 use Rattle.fw_verdict.specs.Policies.{decided_by_target, policies_at}
 use Rattle.fw_verdict.specs.Policies.End.{at_host, in_zone}
 use Rattle.fw_verdict.specs.Way.{stays_within, target_forwarded}
@@ -23,17 +26,19 @@ use Rattle.lower_hooks.specs.Leads.{BaseLeads, IsForwardTarget, IsInputTarget, I
 use Rattle.lower_hooks.specs.Leads.IsForwardTarget.{before as forward_before, behind as forward_behind}
 use Rattle.lower_hooks.specs.Leads.IsInputTarget.{before as input_before, behind as input_behind, settings}
 use Rattle.lower_hooks.specs.Leads.IsOutputTarget.{before as output_before, behind as output_behind}
-use Rattle.lower_hooks.specs.Listed.{decided_rules, forward_rules, input_rules, jump_where, output_rules, policy_jump, policy_rules, rules_at, target_rules, within_rules, zone_jump}
-use Rattle.lower_hooks.specs.Rules.{always, default_rules, early_rules, known_rules, lo_out, where_is}
+use Rattle.lower_hooks.specs.Listed.{decided_rules, forward_rules, icmp_first, input_end, input_rules, jump_where, output_rules, policy_jump, policy_rules, rules_at, target_line, target_rules, within_rules, zone_jump}
+use Rattle.lower_hooks.specs.Rules.{always, denial_rules, early_rules, icmp_rules, invalid_rules, known_rules, lo_out, told_of, where_is}
 use Rattle.lower_hooks.specs.Settings.{has_settings, has_walk}
 use Rattle.lower_match.specs.Stands.{Stand}
-use Rattle.lower_zone.proofs.Built.{AreLeaves, all_joined, both, leaves_decision}
-use Rattle.lower_zone.specs.Forms.{is}
+use Rattle.lower_zone.proofs.Built.{AreLeaves, all_joined, both, leaves_decision, leaves_line}
+use Rattle.lower_zone.specs.Forms.{each, is}
 use Rattle.lower_zone.specs.Names.{block_name, policy_block, zone_block}
 use Rattle.nf_chains.specs.Condition.{is_plain}
 use Rattle.nf_rules.specs.declared.chain.Chain.{Chain}
 use Rattle.nf_rules.specs.declared.chain.Hook.{Hook}
+use Rattle.nf_rules.specs.declared.rule.Match.{Match}
 use Rattle.nf_rules.specs.declared.rule.Rule.{Rule}
+use Rattle.nf_rules.specs.declared.statement.Stmt.TheVariants as stmt
 use Rattle.nf_rules.specs.declared.test.Test.{Test}
 use Rattle.nf_rules.specs.declared.test.Test.TheVariants as test
 use Rattle.nf_sound.specs.Names.{chain_of}
@@ -101,21 +106,37 @@ module _ (config : Config) (To : List ℕ → Type 0) where
       (leads_decided (decided_by_target policy.target)))
       (leads_policies others (λ name of. to name (record { policy = of.policy; listed = inr of.listed; some = of.some; is = of.is })))
 
-  leads_default : Leads config To default_rules
-  leads_default =
-      leads_joined icmp_rules (always (verdict.Reject IcmpxAdminProhibited))
-      (leads_joined (where_is (test.Proto icmp_protocol) verdict.Accept) (where_is (test.Proto icmpv6_protocol) verdict.Accept)
-      (leads_where (test.Proto icmp_protocol) verdict.Accept (λ table sets. refl)) (leads_where (test.Proto icmpv6_protocol) verdict.Accept (λ table sets. refl)))
-      (leads_always (verdict.Reject IcmpxAdminProhibited))
-    where
-      icmp_rules : List Rule
-      icmp_rules = where_is (test.Proto icmp_protocol) verdict.Accept ++ where_is (test.Proto icmpv6_protocol) verdict.Accept
+  leads_icmp : Leads config To icmp_rules
+  leads_icmp =
+      leads_joined (where_is (test.Proto icmp_protocol) verdict.Accept) (where_is (test.Proto icmpv6_protocol) verdict.Accept)
+      (leads_where (test.Proto icmp_protocol) verdict.Accept (λ table sets. refl)) (leads_where (test.Proto icmpv6_protocol) verdict.Accept (λ table sets. refl))
 
-  leads_target : (chosen : ZoneTarget) → Leads config To (target_rules chosen)
-  leads_target target.Accept = leads_always verdict.Accept
-  leads_target target.Drop = leads_always verdict.Drop
-  leads_target target.Reject = leads_always (verdict.Reject IcmpxAdminProhibited)
-  leads_target target.Default = leads_default
+  -- lines lead nowhere
+  leads_line : (line : LogLine) (alternatives : List (List Match)) → Stand config.ipsets alternatives → Leads config To (each (stmt.Log line ∷ []) alternatives)
+  leads_line line alternatives stand = leads_nowhere (each (stmt.Log line ∷ []) alternatives) (leaves_line config line alternatives stand)
+
+  leads_denial : (told : LogDenied) (prefix : List ℕ) → Leads config To (denial_rules [] told prefix)
+  leads_denial denied.Off prefix = leads_line (denial prefix) (told_of [] denied.Off) (λ table sets. refl)
+  leads_denial denied.All prefix = leads_line (denial prefix) (told_of [] denied.All) (λ table sets. refl)
+  leads_denial denied.Unicast prefix = leads_line (denial prefix) (told_of [] denied.Unicast) (λ table sets. refl)
+  leads_denial denied.Broadcast prefix = leads_line (denial prefix) (told_of [] denied.Broadcast) (λ table sets. refl)
+  leads_denial denied.Multicast prefix = leads_line (denial prefix) (told_of [] denied.Multicast) (λ table sets. refl)
+
+  leads_target : (front : List ℕ) (zone : Zone) → Leads config To (target_rules config front zone)
+  leads_target front zone =
+      leads_joined (target_line config front zone.name zone.target) (always (target_forwarded zone.target)) (line zone.target) (leads_always (target_forwarded zone.target))
+    where
+      line : (chosen : ZoneTarget) → Leads config To (target_line config front zone.name chosen)
+      line target.Accept = leads_nothing
+      line target.Drop = leads_denial config.log_denied (drop_prefix front zone.name)
+      line target.Reject = leads_denial config.log_denied (reject_prefix front zone.name)
+      line target.Default = leads_denial config.log_denied final_prefix
+
+  leads_icmp_first : (chosen : ZoneTarget) → Leads config To (icmp_first chosen)
+  leads_icmp_first target.Accept = leads_nothing
+  leads_icmp_first target.Drop = leads_nothing
+  leads_icmp_first target.Reject = leads_nothing
+  leads_icmp_first target.Default = leads_icmp
 
   leads_within : (stays : Bool) → Leads config To (if stays then always verdict.Accept else [])
   leads_within true = leads_always verdict.Accept
@@ -127,13 +148,24 @@ module _ (config : Config) (To : List ℕ → Type 0) where
       leads_joined (where_is (test.State state.Established) verdict.Accept) (where_is (test.State state.Related) verdict.Accept)
       (leads_where (test.State state.Established) verdict.Accept (λ table sets. refl)) (leads_where (test.State state.Related) verdict.Accept (λ table sets. refl))
 
-  pub early_nowhere : Leads config To early_rules
+  abbrev is_invalid : List Match
+  is_invalid = is (test.State state.Invalid) ∷ []
+
+  leads_told : (told : LogDenied) → Leads config To (denial_rules is_invalid told invalid_prefix)
+  leads_told denied.Off = leads_line (denial invalid_prefix) (told_of is_invalid denied.Off) (λ table sets. refl)
+  leads_told denied.All = leads_line (denial invalid_prefix) (told_of is_invalid denied.All) (λ table sets. refl)
+  leads_told denied.Unicast = leads_line (denial invalid_prefix) (told_of is_invalid denied.Unicast) (λ table sets. refl)
+  leads_told denied.Broadcast = leads_line (denial invalid_prefix) (told_of is_invalid denied.Broadcast) (λ table sets. refl)
+  leads_told denied.Multicast = leads_line (denial invalid_prefix) (told_of is_invalid denied.Multicast) (λ table sets. refl)
+
+  pub early_nowhere : Leads config To (early_rules config)
   early_nowhere =
-      leads_joined _ (where_is (test.State state.Invalid) verdict.Drop)
+      leads_joined _ (invalid_rules config)
       (leads_joined _ (where_is (test.In (codes "lo")) verdict.Accept)
       (leads_joined known_rules (where_is test.Dnat verdict.Accept) known_nowhere (leads_where test.Dnat verdict.Accept (λ table sets. refl)))
       (leads_where (test.In (codes "lo")) verdict.Accept (λ table sets. refl)))
-      (leads_where (test.State state.Invalid) verdict.Drop (λ table sets. refl))
+      (leads_joined (denial_rules is_invalid config.log_denied invalid_prefix) (where_is (test.State state.Invalid) verdict.Drop)
+      (leads_told config.log_denied) (leads_where (test.State state.Invalid) verdict.Drop (λ table sets. refl)))
 
   pub output_nowhere : Leads config To (known_rules ++ lo_out)
   output_nowhere = leads_joined known_rules lo_out known_nowhere (leads_where (test.Out (codes "lo")) verdict.Accept (λ table sets. refl))
@@ -162,25 +194,25 @@ base_leads config name at start early dispatched chains base nowhere zones = rec
 pub input_leads : (config : Config) (zone : Zone) → Leads config (IsInputTarget config zone) (input_rules config zone)
 input_leads config zone =
     let To = IsInputTarget config zone in
-    leads_joined config To _ (target_rules zone.target)
+    leads_joined config To _ (input_end config zone)
     (leads_joined config To _ (rules_at config stage.BehindZone (in_zone (Some zone)) at_host)
     (leads_joined config To (rules_at config stage.BeforeZone (in_zone (Some zone)) at_host) (zone_jump zone)
     (leads_policies config To (policies_at config stage.BeforeZone (in_zone (Some zone)) at_host) (λ name of. input_before of))
     (leads_jump config To (has_walk zone) (block_name (zone_block zone.name)) (λ some. settings (record { some = some; is = refl }))))
     (leads_policies config To (policies_at config stage.BehindZone (in_zone (Some zone)) at_host) (λ name of. input_behind of)))
-    (leads_target config To zone.target)
+    (leads_joined config To (icmp_first zone.target) (target_rules config input_front zone) (leads_icmp_first config To zone.target) (leads_target config To input_front zone))
 
 -- from a zone to a zone
 pub forward_leads : (config : Config) (from to : Zone) → Leads config (IsForwardTarget config from to) (forward_rules config from to)
 forward_leads config from to =
     let To = IsForwardTarget config from to in
-    leads_joined config To _ (always (target_forwarded from.target))
+    leads_joined config To _ (target_rules config forward_front from)
     (leads_joined config To _ (rules_at config stage.BehindZone (in_zone (Some from)) (in_zone (Some to)))
     (leads_joined config To (rules_at config stage.BeforeZone (in_zone (Some from)) (in_zone (Some to))) (within_rules from to)
     (leads_policies config To (policies_at config stage.BeforeZone (in_zone (Some from)) (in_zone (Some to))) (λ name of. forward_before of))
     (leads_within config To (stays_within (Some from) (Some to))))
     (leads_policies config To (policies_at config stage.BehindZone (in_zone (Some from)) (in_zone (Some to))) (λ name of. forward_behind of)))
-    (leads_always config To (target_forwarded from.target))
+    (leads_target config To forward_front from)
 
 -- from the host to a zone
 pub output_leads : (config : Config) (zone : Zone) → Leads config (IsOutputTarget config zone) (output_rules config zone)

@@ -1,5 +1,6 @@
 pub mod Works
 pub mod Idle
+pub mod Lines
 pub mod Deciding
 pub mod Ways
 pub mod Lists

@@ -9,9 +9,9 @@ use Rattle.fw_model.specs.declared.outcome.Verdict.TheVariants as verdict
 use Rattle.fw_model.specs.declared.packet.Packet.{Packet}
 use Rattle.fw_model.specs.declared.zone.Zone.{Zone}
 use Rattle.fw_verdict.specs.Policies.End.{at_host, in_zone}
-use Rattle.fw_verdict.specs.Walk.{Walked, in_turn, or_then, walk}
-use Rattle.fw_verdict.specs.FilterWay.{early_items, forwarded_end, target_to_host, to_host_end}
-use Rattle.fw_verdict.specs.Way.{decided_as, forward_walk, known_item, lo_walk, policies_before, policies_behind, target_forwarded, zone_walk}
+use Rattle.fw_verdict.specs.Walk.{Walked, in_turn, nothing, or_then, walk}
+use Rattle.fw_verdict.specs.Denied.{forward_front, input_front}
+use Rattle.fw_verdict.specs.Way.{decided_as, early_items, forward_walk, forwarded_end, icmp_accepted, known_item, lo_walk, policies_before, policies_behind, target_forwarded, target_lines, to_host_end, zone_walk}
 use Rattle.fw_zone.specs.Lists.{IsIn}
 use Rattle.lower_dispatch.specs.Dispatch.{Dispatches, LeadTo, at_count}
 use Rattle.lower_dispatch.specs.declared.direction.Direction.TheVariants as direction
@@ -94,25 +94,45 @@ module _ (table : Ruleset) (leaving : Option (List ℕ)) where
 counted : (config : Config) (table : Ruleset) (now : Moment) (count : ℕ) → Meeting config table now → Meeting config table (at_count count now)
 counted config table now count meeting = record { sets = meeting.sets; packet = meeting.packet }
 
+decides_first : (decided : Option Verdict) (lines : List LogLine) (walked : Walked) → (chosen : Verdict) × (decided ≡ Some chosen) → Decides (or_then decided lines walked)
+decides_first (Some one) lines walked here = (one, refl)
+decides_first None lines walked here = absurd (none here.0 here.1)
+  where
+    none : (chosen : Verdict) → None ≡ Some chosen → ⊥
+    none chosen is = cc
+
+-- The end of a chain decides, whatever lines come before.
+target_decides : (config : Config) (front : List ℕ) (zone : Zone) (packet : Packet)
+    → Decides (in_turn (walk (target_lines config front zone.name zone.target) packet ∷ decided_as (target_forwarded zone.target) ∷ []))
+target_decides config front zone packet =
+    let lines = walk (target_lines config front zone.name zone.target) packet in
+    decides_behind lines.decided lines.logs (in_turn (decided_as (target_forwarded zone.target) ∷ [])) (target_forwarded zone.target, refl)
+
+end_decides : (config : Config) (zone : Zone) (packet : Packet) → Decides (to_host_end config packet (Some zone))
+end_decides config zone packet =
+    let icmp = walk (icmp_accepted zone.target) packet in
+    decides_behind icmp.decided icmp.logs (in_turn (walk (target_lines config input_front zone.name zone.target) packet ∷ decided_as (target_forwarded zone.target) ∷ []))
+    (target_decides config input_front zone packet)
+
 to_host_decides : (config : Config) (zone : Zone) (packet : Packet) → Decides (zone_to_host config zone packet)
 to_host_decides config zone packet =
-    let end = decided_as (target_to_host zone.target packet) in
+    let end = to_host_end config packet (Some zone) in
     let before = policies_before config packet (in_zone (Some zone)) at_host in
     let middle = zone_walk config packet (Some zone) in
     let behind = policies_behind config packet (in_zone (Some zone)) at_host in
     decides_behind before.decided before.logs (in_turn (middle ∷ behind ∷ end ∷ []))
     (decides_behind middle.decided middle.logs (in_turn (behind ∷ end ∷ []))
-    (decides_behind behind.decided behind.logs (in_turn (end ∷ [])) (target_to_host zone.target packet, refl)))
+    (decides_behind behind.decided behind.logs (in_turn (end ∷ [])) (decides_first end.decided end.logs nothing (end_decides config zone packet))))
 
 to_zone_decides : (config : Config) (from to : Zone) (packet : Packet) → Decides (zone_to_zone config from to packet)
 to_zone_decides config from to packet =
-    let end = decided_as (target_forwarded from.target) in
+    let end = forwarded_end config packet (Some from) in
     let before = policies_before config packet (in_zone (Some from)) (in_zone (Some to)) in
     let middle = forward_walk (Some from) (Some to) in
     let behind = policies_behind config packet (in_zone (Some from)) (in_zone (Some to)) in
     decides_behind before.decided before.logs (in_turn (middle ∷ behind ∷ end ∷ []))
     (decides_behind middle.decided middle.logs (in_turn (behind ∷ end ∷ []))
-    (decides_behind behind.decided behind.logs (in_turn (end ∷ [])) (target_forwarded from.target, refl)))
+    (decides_behind behind.decided behind.logs (in_turn (end ∷ [])) (decides_first end.decided end.logs nothing (target_decides config forward_front from packet))))
 
 from_host_decides : (config : Config) (zone : Zone) (packet : Packet) → Decides (host_to_zone config zone packet)
 from_host_decides config zone packet =
@@ -140,24 +160,24 @@ chain_works config Holds walked name chains decides table leaving now made there
 -- To the host.
 pub input_works : (config : Config) (zones : List Zone) (chains : List Chain) (dispatched : List Rule)
     → Dispatches config direction.Ingress input_start dispatched
-    → IsOnlyBase (base_chain (codes "filter_INPUT") hook.Input (early_rules ++ dispatched)) chains
+    → IsOnlyBase (base_chain (codes "filter_INPUT") hook.Input (early_rules config ++ dispatched)) chains
     → ((zone : Zone) → IsIn zone zones → HasChain config (InputStands config zone) (zone_to_host config zone) (input_start ++ zone.name) chains)
     → InputWorks config zones chains
 input_works config zones chains dispatched leads base has = record {
-  rules = early_rules ++ dispatched;
+  rules = early_rules config ++ dispatched;
   base = base;
   work = λ table now zone there meeting is among stands.
-      let early = walk early_items now.packet in
-      subst (λ (from : Option Zone). EndAs table None (early_rules ++ dispatched) now
+      let early = walk (early_items config) now.packet in
+      subst (λ (from : Option Zone). EndAs table None (early_rules config ++ dispatched) now
       (in_turn
       (early
       ∷ policies_before config now.packet (in_zone from) at_host
       ∷ zone_walk config now.packet from
       ∷ policies_behind config now.packet (in_zone from) at_host
-      ∷ to_host_end now.packet from
+      ∷ to_host_end config now.packet from
       ∷ [])))
       (sym is)
-      (behind_first table None early_rules dispatched now early.decided early.logs (zone_to_host config zone now.packet) (early_does table None now)
+      (behind_first table None (early_rules config) dispatched now early.decided early.logs (zone_to_host config zone now.packet) (early_does table None config now)
       (λ count. chain_works config (InputStands config zone) (zone_to_host config zone) (input_start ++ zone.name) chains (to_host_decides config zone)
       table None (behind_lines early.logs count now) dispatched there (later config table now early.logs count meeting) stands (has zone among)
       (leads table None (behind_lines early.logs count now) zone meeting.sets is)));
@@ -166,34 +186,34 @@ input_works config zones chains dispatched leads base has = record {
 -- Forwarded.
 pub forward_works : (config : Config) (zones : List Zone) (chains : List Chain) (dispatched : List Rule)
     → Dispatches config direction.Ingress forward_start dispatched
-    → IsOnlyBase (base_chain (codes "filter_FORWARD") hook.Forward (early_rules ++ dispatched)) chains
+    → IsOnlyBase (base_chain (codes "filter_FORWARD") hook.Forward (early_rules config ++ dispatched)) chains
     → ((from : Zone) → IsIn from zones → HasPairs config zones from chains)
     → ForwardWorks config zones chains
 forward_works config zones chains dispatched leads base has = record {
-  rules = early_rules ++ dispatched;
+  rules = early_rules config ++ dispatched;
   base = base;
   work = λ table now name from to there meeting is_from is_to among among_to stands.
-      let early = walk early_items now.packet in
+      let early = walk (early_items config) now.packet in
       let pairs = has from among in
-      subst (λ (one : Option Zone). EndAs table (Some name) (early_rules ++ dispatched) now
+      subst (λ (one : Option Zone). EndAs table (Some name) (early_rules config ++ dispatched) now
       (in_turn
       (early
       ∷ policies_before config now.packet (in_zone one) (in_zone (egress config now.packet name))
       ∷ forward_walk one (egress config now.packet name)
       ∷ policies_behind config now.packet (in_zone one) (in_zone (egress config now.packet name))
-      ∷ forwarded_end one
+      ∷ forwarded_end config now.packet one
       ∷ [])))
       (sym is_from)
-      (subst (λ (one : Option Zone). EndAs table (Some name) (early_rules ++ dispatched) now
+      (subst (λ (one : Option Zone). EndAs table (Some name) (early_rules config ++ dispatched) now
       (in_turn
       (early
       ∷ policies_before config now.packet (in_zone (Some from)) (in_zone one)
       ∷ forward_walk (Some from) one
       ∷ policies_behind config now.packet (in_zone (Some from)) (in_zone one)
-      ∷ forwarded_end (Some from)
+      ∷ forwarded_end config now.packet (Some from)
       ∷ [])))
       (sym is_to)
-      (behind_first table (Some name) early_rules dispatched now early.decided early.logs (zone_to_zone config from to now.packet) (early_does table (Some name) now)
+      (behind_first table (Some name) (early_rules config) dispatched now early.decided early.logs (zone_to_zone config from to now.packet) (early_does table (Some name) config now)
       (λ count.
       let moment = behind_lines early.logs count now in
       let first = leads table (Some name) moment from meeting.sets is_from in

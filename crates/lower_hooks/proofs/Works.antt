@@ -21,7 +21,7 @@ pub later : (config : Config) (table : Ruleset) (now : Moment) (lines : List Log
 later config table now lines count meeting = record { sets = meeting.sets; packet = meeting.packet }
 
 -- nothing behind what a walk does
-or_nothing : (decided : Option Verdict) (lines : List LogLine) → or_then decided lines nothing ≡ record { decided = decided; logs = lines }
+pub or_nothing : (decided : Option Verdict) (lines : List LogLine) → or_then decided lines nothing ≡ record { decided = decided; logs = lines }
 or_nothing (Some verdict) lines = refl
 or_nothing None lines = ap (λ logs. record { decided = None; logs = logs }) (append-nil lines)
 

@@ -1,6 +1,5 @@
 //! What the targets of zones do, behind lines of what they deny.
 ghost use Rattle.std.specs.Prelude.{◌≡◌, ◌++◌, [], OnOk};
-ghost use Rattle.fw_verdict.specs.Denied.{final_prefix};
 ghost use Rattle.lower_hooks.specs.Listed.{target_line, target_rules};
 ghost use Rattle.lower_hooks.specs.Rules.{denial_rules};
 
@@ -12,6 +11,19 @@ use fw_model::{Config, LogDenied, Zone, ZoneTarget};
 use fw_verdict::target_forwarded;
 use nf_rules::Rule;
 use std::alloc::Global;
+
+/// Appends the line before a denial of any packet, by what it begins with.
+fn push_told(
+    alloc: Global,
+    told: LogDenied,
+    prefix: &str,
+    rules: &mut Seq<Rule>,
+) -> Result<(), Memory>
+    ensures { OnOk result (rules.new ≡ rules.old ++ denial_rules [] told prefix.now) }
+{
+    let prefix = Text::of(alloc, prefix)?;
+    push_denial(alloc, told, Seq::new(alloc), prefix, rules)
+}
 
 /// Appends the line of a zone before it denies a packet: what stands before the zone's name, the name, and what was done.
 fn push_named(
@@ -25,14 +37,6 @@ fn push_named(
     ensures { OnOk result (rules.new ≡ rules.old ++ denial_rules [] told (front.now ++ zone.now ++ end.now)) }
 {
     let prefix = zone_prefix(alloc, front, zone, end)?;
-    push_denial(alloc, told, Seq::new(alloc), prefix, rules)
-}
-
-/// Appends the line before the last reject of all.
-fn push_final(alloc: Global, told: LogDenied, rules: &mut Seq<Rule>) -> Result<(), Memory>
-    ensures { OnOk result (rules.new ≡ rules.old ++ denial_rules [] told final_prefix) }
-{
-    let prefix = Text::of(alloc, "FINAL_REJECT: ")?;
     push_denial(alloc, told, Seq::new(alloc), prefix, rules)
 }
 
@@ -51,7 +55,7 @@ fn push_line(
         ZoneTarget::Accept => Ok(()),
         ZoneTarget::Drop => push_named(alloc, told, front, &zone.name, "_DROP: ", rules),
         ZoneTarget::Reject => push_named(alloc, told, front, &zone.name, "_REJECT: ", rules),
-        ZoneTarget::Default => push_final(alloc, told, rules),
+        ZoneTarget::Default => push_told(alloc, told, "FINAL_REJECT: ", rules),
     }
 }
 

@@ -1,5 +1,5 @@
-use Rattle.lower_hooks.proofs.Filter.{outcomes}
-use Rattle.lower_hooks.proofs.laws.hooks_lead_the_way.Goals as goal
+use Rattle.lower_hooks.proofs.Filter.{filter_stands}
+use Rattle.lower_hooks.proofs.laws.hooks_decide.Goals as goal
 
 pub returns : goal.returns
-returns c = outcomes c.packets_use_zones.ensures
+returns c = filter_stands c.packets_use_zones.ensures
