@@ -1,5 +1,6 @@
 // Builds the chains of the settings that bench_compile makes, as plain records, again and again, and prints how many chains and rules
-// there are. The arguments say how often, `compile`, and how many ports and rich rules; of policies there are a tenth as many.
+// there are. The arguments say how often, `compile`, how many settings, and which: `ports`, so many ports and rich rules and a tenth as
+// many policies, or `forwards`, so many forward ports over five zones that masquerade.
 use std::net::Ipv4Addr;
 
 #[derive(Clone, Copy)]
@@ -36,6 +37,8 @@ enum Stmt {
     Reject(u8),
     Jump(String),
     Goto(String),
+    Dnat(Ipv4Addr, u16),
+    Masquerade,
 }
 
 struct Rule {
@@ -176,13 +179,180 @@ fn compile(settings: &Settings) -> Vec<Chain> {
     chains
 }
 
+struct Forward {
+    port: u16,
+    address: Ipv4Addr,
+    to_port: u16,
+}
+
+struct Zone {
+    name: String,
+    interface: Option<String>,
+    services: Vec<(Proto, u16, Option<std::net::IpAddr>)>,
+    masquerade: bool,
+    forwards: Vec<Forward>,
+}
+
+fn services(name: &str) -> Vec<(Proto, u16, Option<std::net::IpAddr>)> {
+    let ssh = (Proto::Tcp, 22, None);
+    let dhcp = (Proto::Udp, 546, Some("fe80::".parse().unwrap()));
+    match name {
+        "external" | "dmz" => vec![ssh],
+        "home" | "internal" => vec![
+            ssh,
+            (Proto::Udp, 5353, Some("224.0.0.251".parse().unwrap())),
+            (Proto::Udp, 5353, Some("ff02::fb".parse().unwrap())),
+            (Proto::Udp, 137, None),
+            (Proto::Udp, 138, None),
+            dhcp,
+        ],
+        _ => vec![ssh, dhcp],
+    }
+}
+
+fn zones(count: u64) -> Vec<Zone> {
+    let names = ["external", "home", "internal", "work", "dmz"];
+    let mut zones = Vec::new();
+    for (place, name) in names.iter().enumerate() {
+        let numbers = (0..count).filter(|number| *number % 5 == place as u64);
+        let forwards = numbers.map(|number| Forward {
+            port: (number % 60_000 + 1_000) as u16,
+            address: Ipv4Addr::new(10, 0, (number / 256 % 256) as u8, (number % 256) as u8),
+            to_port: 8080,
+        });
+        zones.push(Zone {
+            name: name.to_string(),
+            interface: Some(format!("eth{place}")),
+            services: services(name),
+            masquerade: true,
+            forwards: forwards.collect(),
+        });
+    }
+    zones.push(Zone {
+        name: "public".to_string(),
+        interface: None,
+        services: services("public"),
+        masquerade: false,
+        forwards: Vec::new(),
+    });
+    zones
+}
+
+// The rules that lead to the chains of zones, the default zone last.
+fn leads(zones: &[Zone], start: &str, test: fn(String) -> Test, rules: &mut Vec<Rule>) {
+    let mut bound: Vec<&Zone> = zones.iter().filter(|zone| zone.interface.is_some()).collect();
+    bound.sort_by(|one, other| one.name.cmp(&other.name));
+    for zone in bound {
+        let interface = zone.interface.as_ref().unwrap().clone();
+        rules.push(rule(vec![plain(test(interface))], Stmt::Goto(format!("{start}{}", zone.name))));
+    }
+    rules.push(always(Stmt::Goto(format!("{start}public"))));
+}
+
+fn chain(name: String, base: Option<(u8, i32)>, rules: Vec<Rule>) -> Chain {
+    Chain { name, base, rules }
+}
+
+fn filter_chains(zones: &[Zone], chains: &mut Vec<Chain>) {
+    let mut input = early();
+    leads(zones, "filter_INPUT_", Test::In, &mut input);
+    chains.push(chain("filter_INPUT".to_string(), Some((1, 10)), input));
+    let mut forward = early();
+    leads(zones, "filter_FORWARD_", Test::In, &mut forward);
+    chains.push(chain("filter_FORWARD".to_string(), Some((2, 10)), forward));
+    let mut output = vec![
+        rule(vec![plain(Test::State(1))], Stmt::Accept),
+        rule(vec![plain(Test::State(2))], Stmt::Accept),
+        rule(vec![plain(Test::Out("lo".to_string()))], Stmt::Accept),
+    ];
+    leads(zones, "filter_OUTPUT_", Test::Out, &mut output);
+    chains.push(chain("filter_OUTPUT".to_string(), Some((3, 10)), output));
+    for zone in zones {
+        let name = &zone.name;
+        let to_host = vec![
+            always(Stmt::Jump(format!("filter_IN_{name}"))),
+            rule(vec![plain(Test::Protocol(1))], Stmt::Accept),
+            rule(vec![plain(Test::Protocol(58))], Stmt::Accept),
+            always(Stmt::Reject(0)),
+        ];
+        chains.push(chain(format!("filter_INPUT_{name}"), None, to_host));
+        let mut onwards = Vec::new();
+        leads(zones, &format!("filter_FORWARD_{name}/"), Test::Out, &mut onwards);
+        chains.push(chain(format!("filter_FORWARD_{name}"), None, onwards));
+        for to in zones {
+            let mut rules = Vec::new();
+            if to.name == *name {
+                rules.push(always(Stmt::Accept));
+            }
+            rules.push(always(Stmt::Accept));
+            rules.push(always(Stmt::Reject(0)));
+            chains.push(chain(format!("filter_FORWARD_{name}/{}", to.name), None, rules));
+        }
+        chains.push(chain(format!("filter_OUTPUT_{name}"), None, vec![always(Stmt::Accept)]));
+        let allow = format!("filter_allow_IN_{name}");
+        chains.push(chain(format!("filter_IN_{name}"), None, vec![always(Stmt::Jump(allow.clone()))]));
+        let allowed = zone.services.iter().map(|(proto, port, destination)| {
+            let mut matches = vec![plain(Test::Port(*proto, *port, *port))];
+            if let Some(address) = destination {
+                matches.push(plain(Test::Destination(*address, 64)));
+            }
+            rule(matches, Stmt::Accept)
+        });
+        chains.push(chain(allow, None, allowed.collect()));
+    }
+}
+
+fn nat_chains(zones: &[Zone], chains: &mut Vec<Chain>) {
+    let mut before = Vec::new();
+    leads(zones, "nat_PRE_", Test::In, &mut before);
+    chains.push(chain("nat_PREROUTING".to_string(), Some((0, -90)), before));
+    let mut behind = vec![rule(vec![plain(Test::Out("lo".to_string()))], Stmt::Accept)];
+    leads(zones, "nat_POST_", Test::Out, &mut behind);
+    chains.push(chain("nat_POSTROUTING".to_string(), Some((4, 110)), behind));
+    for zone in zones {
+        let name = &zone.name;
+        let (mut to_targets, mut to_masks) = (Vec::new(), Vec::new());
+        if !zone.forwards.is_empty() {
+            let targets = format!("nat_DNAT_ZONE_{name}");
+            to_targets.push(always(Stmt::Jump(targets.clone())));
+            let rules = zone.forwards.iter().map(|forward| {
+                let matches = vec![plain(Test::Family(4)), plain(Test::Port(Proto::Tcp, forward.port, forward.port))];
+                rule(matches, Stmt::Dnat(forward.address, forward.to_port))
+            });
+            chains.push(chain(targets, None, rules.collect()));
+        }
+        if zone.masquerade {
+            let masks = format!("nat_MASQ_ZONE_{name}");
+            to_masks.push(always(Stmt::Jump(masks.clone())));
+            chains.push(chain(masks, None, vec![rule(vec![plain(Test::Family(4))], Stmt::Masquerade)]));
+        }
+        chains.push(chain(format!("nat_PRE_{name}"), None, to_targets));
+        chains.push(chain(format!("nat_POST_{name}"), None, to_masks));
+    }
+}
+
+fn compile_zones(zones: &[Zone]) -> Vec<Chain> {
+    let mut chains = Vec::new();
+    filter_chains(zones, &mut chains);
+    nat_chains(zones, &mut chains);
+    chains.sort_by(|one, other| one.name.cmp(&other.name));
+    chains
+}
+
 fn main() {
     let words: Vec<String> = std::env::args().skip(1).collect();
     let count: u64 = words[0].parse().unwrap();
-    let settings = settings(words[2].parse().unwrap());
+    let size: u64 = words[2].parse().unwrap();
+    let build: Box<dyn Fn() -> Vec<Chain>> = if words[3] == "ports" {
+        let settings = settings(size);
+        Box::new(move || compile(&settings))
+    } else {
+        let zones = zones(size);
+        Box::new(move || compile_zones(&zones))
+    };
     let (mut chains, mut rules) = (0, 0);
     for _ in 0..count {
-        let built = compile(&settings);
+        let built = build();
         chains = built.len();
         rules = built.iter().map(|chain| chain.rules.len()).sum();
     }

@@ -10,19 +10,27 @@ use Rattle.fw_model.specs.declared.zone.Zone.{Zone}
 use Rattle.fw_valid.specs.Each.{Each, IsWithoutRepeats}
 use Rattle.fw_valid.specs.Names.{AreNamed}
 use Rattle.fw_zone.specs.Lists.{IsIn}
-use Rattle.lower_all.specs.Joined.{AreJoined, used_zones}
+use Rattle.fw_verdict.specs.declared.rich.Part.TheVariants as part
+use Rattle.fw_verdict.specs.declared.sides.Side.{Side}
+use Rattle.fw_verdict.specs.declared.sides.Side.TheVariants as side
+use Rattle.lower_all.specs.Joined.{AreJoined, AreOutside, used_zones}
 use Rattle.lower_blocks.specs.Blocks as blocks
 use Rattle.lower_blocks.specs.Blocks.{Told}
 use Rattle.lower_blocks.specs.Blocks.Told.{of_policy as told_policy, of_zone as told_zone}
 use Rattle.lower_blocks.specs.Needed.{all_told}
+use Rattle.lower_changes.specs.Sides.{IsSide}
 use Rattle.lower_dispatch.specs.Uses.{is_in_use}
 use Rattle.lower_hooks.specs.Names.{forward_names, forward_start, from_names, input_start, names_of, output_start, pair_start, zone_names}
 use Rattle.lower_zone.specs.Laws.{IsBlock}
 use Rattle.lower_zone.specs.Laws.IsBlock.{of_policy, of_zone}
-use Rattle.lower_zone.specs.Names.{block_of}
+use Rattle.lower_zone.specs.Names.{IsNameOf, block_of}
+use Rattle.lower_zone.specs.Names.IsNameOf.{of_part, own, whole}
 use Rattle.nf_rules.specs.declared.chain.Chain.{Chain}
 use Rattle.lower_all.proofs.Distinct.{apart_from_names, distinct_each, distinct_filtered, distinct_joined, distinct_told, each_from, each_of, from_flat_map}
-use Rattle.lower_all.proofs.Found.{apart_again, apart_joined}
+use Rattle.lower_all.proofs.Among.{in_both}
+use Rattle.lower_all.proofs.Found.{AreApart, apart_again, apart_joined}
+use Rattle.lower_all.proofs.Laws.{NameLaws}
+use Rattle.lower_all.proofs.Parts.{all_of, are_side, each_outside, filter_of, side_of}
 use Rattle.lower_blocks.proofs.Lists.{from_map, in_either, in_map, was_in}
 use Rattle.lower_blocks.proofs.There.{names_apart as settings_apart, of_some_block, told_apart}
 use Rattle.lower_zone.proofs.Apart.{blocks_apart}
@@ -253,13 +261,51 @@ used_are_named config named =
     each_of (λ name. IsTrue (is_name name)) (map (λ (one : Zone). one.name) config.zones) named.zones.well_formed zone.name
     (in_map (λ (one : Zone). one.name) zone config.zones (was_in (is_in_use config) zone config.zones there)))
 
--- no two chains of a configuration have the same name
-pub names_apart : (config : Config) (chains : List Chain) → AreJoined config chains → AreNamed config → AllPairs (λ one other. one.name ≢ other.name) chains
-names_apart config chains joined named =
+-- The names of all chains in the filter begin with an f.
+
+block_letter : (block name : List ℕ) → IsNameOf block name → get_or name 0 0 ≡ 102
+block_letter block name (whole is) = ap (λ (text : List ℕ). get_or text 0 0) is
+block_letter block name (of_part part.Pre is) = ap (λ (text : List ℕ). get_or text 0 0) is
+block_letter block name (of_part part.Log is) = ap (λ (text : List ℕ). get_or text 0 0) is
+block_letter block name (of_part part.Deny is) = ap (λ (text : List ℕ). get_or text 0 0) is
+block_letter block name (of_part part.Allow is) = ap (λ (text : List ℕ). get_or text 0 0) is
+block_letter block name (of_part part.Post is) = ap (λ (text : List ℕ). get_or text 0 0) is
+block_letter block name (own number small is) = ap (λ (text : List ℕ). get_or text 0 0) is
+
+begin_with_f : (zones : List Zone) (name : List ℕ) → IsIn name (hook_names zones) → get_or name 0 0 ≡ 102
+begin_with_f zones name =
+    in_both (λ (one : List ℕ). get_or one 0 0 ≡ 102) (input_names zones ++ all_forward_names zones) (output_names zones)
+    (in_both (λ (one : List ℕ). get_or one 0 0 ≡ 102) (input_names zones) (all_forward_names zones) of_input of_forward) of_output name
+  where
+    of_input : (one : List ℕ) → IsIn one (input_names zones) → get_or one 0 0 ≡ 102
+    of_input one (inl same) = ap (λ (text : List ℕ). get_or text 0 0) (sym same)
+    of_input one (inr there) = letter_of input_start 0 102 (λ behind. refl) zones one there
+
+    of_forward : (one : List ℕ) → IsIn one (all_forward_names zones) → get_or one 0 0 ≡ 102
+    of_forward one (inl same) = ap (λ (text : List ℕ). get_or text 0 0) (sym same)
+    of_forward one (inr there) = forward_letter 0 102 (λ behind. refl) zones zones one there
+
+    of_output : (one : List ℕ) → IsIn one (output_names zones) → get_or one 0 0 ≡ 102
+    of_output one (inl same) = ap (λ (text : List ℕ). get_or text 0 0) (sym same)
+    of_output one (inr there) = letter_of output_start 0 102 (λ behind. refl) zones one there
+
+filter_letter : (config : Config) (chains : List Chain) (joined : AreJoined config chains) (chain : Chain) → IsIn chain (filter_of joined) → get_or chain.name 0 0 ≡ 102
+filter_letter config chains joined =
+    in_both (λ (chain : Chain). get_or chain.name 0 0 ≡ 102) ((joined.inputs ++ joined.forwards) ++ joined.outputs) joined.settings
+    (λ chain among.
+    begin_with_f (used_zones config) chain.name
+    (subst (IsIn chain.name) (hooks_are (used_zones config) joined.inputs joined.forwards joined.outputs joined.input_names joined.forward_names joined.output_names)
+    (in_map (λ (one : Chain). one.name) chain ((joined.inputs ++ joined.forwards) ++ joined.outputs) among)))
+    (λ chain among.
+    let block = of_some_block config (all_told config (used_zones config)) joined.settings joined.blocks chain among in
+    block_letter (blocks.block_of block.one) chain.name (block.is.names.each chain block.chain_in))
+
+-- no two of them have the same name
+filter_apart : (config : Config) (chains : List Chain) (joined : AreJoined config chains) → AreNamed config → AreApart (λ (chain : Chain). chain.name) (filter_of joined)
+filter_apart config chains joined named =
     let zones = used_zones config in
     let hooks = (joined.inputs ++ joined.forwards) ++ joined.outputs in
-    apart_again (λ (chain : Chain). chain.name) (hooks ++ joined.settings) chains joined.all
-    (apart_joined (λ (chain : Chain). chain.name) hooks joined.settings
+    apart_joined (λ (chain : Chain). chain.name) hooks joined.settings
     (hooks_apart zones joined.inputs joined.forwards joined.outputs joined.input_names joined.forward_names joined.output_names
     (distinct_filtered (λ (zone : Zone). zone.name) (is_in_use config) config.zones named.zones.unique)
     (used_are_named config named))
@@ -267,4 +313,47 @@ names_apart config chains joined named =
     (λ chain other in_hooks in_blocks.
     let block = of_some_block config (all_told config zones) joined.settings joined.blocks other in_blocks in
     hooks_and_blocks_apart zones joined.inputs joined.forwards joined.outputs joined.input_names joined.forward_names joined.output_names
-    (blocks.block_of block.one) (told_is_block block.one) chain other in_hooks (block.is.names.told other block.chain_in)))
+    (blocks.block_of block.one) (told_is_block block.one) chain other in_hooks (block.is.names.told other block.chain_in))
+
+module _ (laws : NameLaws) (config : Config) (named : AreNamed config) where
+  -- nor have two of those outside it
+  outside_apart : (chains : List Chain) → AreOutside config (used_zones config) chains → AreApart (λ (chain : Chain). chain.name) chains
+  outside_apart chains sides =
+      subst (AreApart (λ (chain : Chain). chain.name)) (sym sides.are)
+      (apart_joined (λ (chain : Chain). chain.name) (sides.marks ++ sides.targets) sides.masks
+      (apart_joined (λ (chain : Chain). chain.name) sides.marks sides.targets
+      (one_side side.Marked) (one_side side.Translated) (two_sides side.Marked side.Translated (λ same. cc)))
+      (one_side side.Leaving)
+      (λ chain other among there.
+      ⊎_elim
+      (λ marked. two_sides side.Marked side.Leaving (λ same. cc) chain other marked there)
+      (λ translated. two_sides side.Translated side.Leaving (λ same. cc) chain other translated there)
+      (in_either chain sides.marks sides.targets among)))
+    where
+      is : (of : Side) → IsSide config of (used_zones config) (side_of sides of)
+      is = are_side config (used_zones config) chains sides
+
+      one_side : (of : Side) → AreApart (λ (chain : Chain). chain.name) (side_of sides of)
+      one_side of =
+          laws.apart config of (used_zones config) (side_of sides of) (is of)
+          (distinct_filtered (λ (zone : Zone). zone.name) (is_in_use config) config.zones named.zones.unique)
+          named.policies.unique
+
+      two_sides : (of on : Side) → of ≢ on → (chain another : Chain) → IsIn chain (side_of sides of) → IsIn another (side_of sides on) → chain.name ≢ another.name
+      two_sides of on = laws.across config of on (used_zones config) (side_of sides of) (side_of sides on) (is of) (is on)
+
+  outside_letter : (chains : List Chain) → AreOutside config (used_zones config) chains → (chain : Chain) → IsIn chain chains → get_or chain.name 0 0 ≢ 102
+  outside_letter chains sides =
+      each_outside config (used_zones config) chains sides (λ (chain : Chain). get_or chain.name 0 0 ≢ 102)
+      (λ of. laws.outside config of (used_zones config) (side_of sides of) (are_side config (used_zones config) chains sides of))
+
+  -- no two chains of a configuration have the same name
+  pub names_apart : (chains : List Chain) → AreJoined config chains → AllPairs (λ one other. one.name ≢ other.name) chains
+  names_apart chains joined =
+      apart_again (λ (chain : Chain). chain.name) (all_of joined) chains joined.all
+      (apart_joined (λ (chain : Chain). chain.name) (filter_of joined) joined.outside
+      (filter_apart config chains joined named)
+      (outside_apart joined.outside joined.sides)
+      (λ chain other among there same.
+      outside_letter joined.outside joined.sides other there
+      (sym (ap (λ (name : List ℕ). get_or name 0 0) same) ∙ filter_letter config chains joined chain among)))

@@ -1,9 +1,11 @@
 pub mod Among
 pub mod Apart
+pub mod Bases
 pub mod Called
 pub mod Distinct
 pub mod Found
 pub mod Joining
+pub mod Laws
 pub mod Named
 pub mod Parts
 pub mod SetsStand

@@ -1,5 +1,5 @@
 -- Chains and sets by their names: each is found by its own, and they stand in order.
-use Rattle.std.proofs.Common.{◌++◌, ◌≡◌, ◌≢◌, List, [], ◌∷◌, map, codes, Some, is_some, AllPairs, refl, sym, ap, subst}
+use Rattle.std.proofs.Common.{◌≡◌, ◌≢◌, List, [], ◌∷◌, map, codes, Some, is_some, AllPairs, refl, sym, ap, subst}
 use Rattle.fw_model.specs.declared.config.Config.{Config}
 use Rattle.fw_model.specs.declared.ipset.IpSet.{IpSet}
 use Rattle.fw_valid.specs.Each.{IsWithoutRepeats}
@@ -8,7 +8,6 @@ use Rattle.fw_zone.specs.Lists.{IsIn}
 use Rattle.lower_all.specs.Joined.{AreJoined, AreSetsOf, set_of}
 use Rattle.lower_match.specs.Lowers.{set_name}
 use Rattle.lower_match.specs.Stands.{EachHasSet}
-use Rattle.lower_zone.specs.Evaluates.{EachIsThere}
 use Rattle.nf_rules.specs.declared.chain.Chain.{Chain}
 use Rattle.nf_rules.specs.declared.ruleset.Ruleset.{Ruleset}
 use Rattle.nf_rules.specs.declared.set.NfSet.{NfSet}
@@ -17,7 +16,8 @@ use Rattle.std.proofs.lemmas.List.{append_cancel_left}
 use Rattle.lower_all.proofs.Distinct.{apart_from_names, distinct_told}
 use Rattle.lower_all.proofs.Found.{apart_again, by_name, found, is_in_again}
 use Rattle.lower_all.proofs.Apart.{names_apart}
-use Rattle.lower_blocks.proofs.Lists.{in_first, in_map, in_second}
+use Rattle.lower_all.proofs.Laws.{NameLaws}
+use Rattle.lower_blocks.proofs.Lists.{in_map}
 
 map_twice : {A B C : Type 0} (f : B → C) (g : A → B) (items : List A) → map f (map g items) ≡ map (λ item. f (g item)) items
 map_twice f g [] = refl
@@ -25,8 +25,8 @@ map_twice f g (item ∷ items) = ap (λ rest. f (g item) ∷ rest) (map_twice f 
 
 -- chains
 
-pub chains_by_name : (config : Config) (chains : List Chain) → AreJoined config chains → AreNamed config → IsByName (λ (chain : Chain). chain.name) chains
-chains_by_name config chains joined named = by_name (λ (chain : Chain). chain.name) chains joined.sorted (names_apart config chains joined named)
+pub chains_by_name : NameLaws → (config : Config) (chains : List Chain) → AreJoined config chains → AreNamed config → IsByName (λ (chain : Chain). chain.name) chains
+chains_by_name laws config chains joined named = by_name (λ (chain : Chain). chain.name) chains joined.sorted (names_apart laws config named chains joined)
 
 -- sets
 

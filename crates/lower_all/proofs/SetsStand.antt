@@ -1,7 +1,6 @@
 -- The sets of a ruleset hold what the ipsets of a valid configuration hold.
-use Rattle.std.proofs.Common.{◌≡◌, ◌≢◌, ◌∙◌, ◌==◌, ℕ, Bool, true, false, not, ◌&&◌, ◌||◌, List, [], ◌∷◌, ◌++◌, map, Option, None, Some, inl, inr, refl, sym, ap, subst, Decides, AllPairs}
+use Rattle.std.proofs.Common.{◌≡◌, ◌≢◌, ◌∙◌, ◌==◌, ℕ, Bool, true, false, not, ◌&&◌, ◌||◌, List, [], ◌∷◌, map, Option, None, Some, inl, inr, refl, sym, ap, subst, AllPairs}
 use Rattle.std.proofs.lemmas.Slice.Eq.{bytes_eq-Decides}
-use Rattle.std.proofs.lemmas.List.Folds.{list_any-append}
 use Rattle.std.specs.Prelude.{IsTrue, if◌then◌else◌}
 use Rattle.std.specs.List.{flat_map, list_any}
 use Rattle.std.specs.Str.{bytes_eq}
@@ -10,10 +9,9 @@ use Rattle.fw_addr.specs.declared.addr.Addr.{Addr}
 use Rattle.fw_addr.specs.declared.addr.Addr.TheVariants.{V4, V6}
 use Rattle.fw_addr.specs.declared.packet.Family.{Family}
 use Rattle.fw_addr.specs.declared.packet.Family.TheVariants as families
-use Rattle.fw_hits.specs.Sources.{entries_hold, is_mac, is_of_family, item_has_address, item_has_mac, set_holds}
+use Rattle.fw_hits.specs.Sources.{entries_hold, is_of_family, item_has_address, item_has_mac}
 use Rattle.fw_ipset.specs.Entries.{fits, is_same_family, may_hold}
 use Rattle.fw_model.specs.declared.config.Config.{Config}
-use Rattle.fw_model.specs.declared.ipset.IpSet.{IpSet}
 use Rattle.fw_model.specs.declared.ipset.Item.{Item}
 use Rattle.fw_model.specs.declared.ipset.Item.TheVariants as item
 use Rattle.fw_model.specs.declared.ipset.SetKind.{SetKind}
@@ -22,18 +20,17 @@ use Rattle.fw_valid.specs.Each.{Each}
 use Rattle.fw_valid.specs.Names.{AreNamed}
 use Rattle.fw_valid.specs.Sets.{IsSet}
 use Rattle.fw_zone.specs.Lists.{IsIn}
-use Rattle.lower_all.specs.Joined.{AreSetsOf, body_of, kept, mac_of, net_of, set_of}
+use Rattle.lower_all.specs.Joined.{AreSetsOf, body_of, mac_of, net_of, set_of}
 use Rattle.lower_all.proofs.Among.{left}
 use Rattle.lower_all.proofs.Distinct.{each_of}
 use Rattle.lower_all.proofs.Found.{is_in_again}
 use Rattle.lower_all.proofs.Named.{sets_apart}
 use Rattle.lower_blocks.proofs.Lists.{in_map, pairs_head, pairs_tail}
-use Rattle.lower_match.specs.Lowers.{EachStands, StandsFor, set_name}
-use Rattle.nf_eval.specs.Sets.{has_address, has_mac, holds_address, holds_mac}
+use Rattle.lower_match.specs.Lowers.{EachStands, set_name}
+use Rattle.nf_eval.specs.Sets.{has_address, has_mac}
 use Rattle.nf_eval.specs.Tests.{is_from_set}
 use Rattle.nf_rules.specs.declared.set.NfSet.{NfSet}
 use Rattle.nf_rules.specs.declared.set.SetBody.{SetBody}
-use Rattle.nf_rules.specs.declared.set.SetBody.TheVariants as body
 
 or_false : (one : Bool) → (one || false) ≡ one
 or_false true = refl

@@ -1,35 +1,36 @@
 -- The compiled ruleset is sound: all that its rules name is there, and no path has more than five links.
-use Rattle.std.proofs.Common.{◌≡◌, ◌∙◌, ◌⊎◌, inl, inr, ◌≤◌, arith, ℕ, suc, Bool, true, List, [], ◌∷◌, ◌++◌, map, Option, None, Some, refl, sym, ap, subst}
-use Rattle.std.specs.Prelude.{IsTrue, codes, is_some}
-use Rattle.std.specs.List.{flat_map, list_all}
+use Rattle.std.proofs.Common.{◌≡◌, ◌∙◌, inl, inr, ◌≤◌, arith, ℕ, suc, true, List, [], ◌∷◌, ◌++◌, Option, None, Some, refl, sym, ap, subst}
+use Rattle.std.specs.Prelude.{codes, is_some}
+use Rattle.std.specs.List.{list_all}
 use Rattle.fw_model.specs.declared.config.Config.{Config}
 use Rattle.fw_model.specs.declared.zone.Zone.{Zone}
 use Rattle.fw_verdict.specs.Policies.{End, policies_at}
 use Rattle.fw_verdict.specs.Policies.End.{at_host, in_zone}
 use Rattle.fw_verdict.specs.declared.policies.Stage.{Stage}
 use Rattle.fw_verdict.specs.declared.policies.Stage.TheVariants as stage
+use Rattle.fw_verdict.specs.declared.sides.Side.{Side}
 use Rattle.fw_zone.specs.Lists.{IsIn}
-use Rattle.lower_all.specs.Joined.{AreJoined, used_zones}
+use Rattle.lower_all.specs.Joined.{used_zones}
 use Rattle.lower_all.proofs.Among.{all_of_each, each_of_all, of_flat_map, of_map}
 use Rattle.lower_all.proofs.Called.{called_is}
-use Rattle.lower_all.proofs.Parts.{HasParts, block_there, each_chain, in_forwards, in_inputs, in_outputs, in_settings, same_chain}
+use Rattle.lower_all.proofs.Parts.{HasParts, are_side, block_there, each_chain, in_forwards, in_inputs, in_outputs, in_settings, same_chain, side_of, side_there}
 use Rattle.lower_all.proofs.Working.{used_is_listed, zone_is_told}
 use Rattle.lower_blocks.proofs.Lists.{in_map}
 use Rattle.lower_blocks.specs.Blocks.{Told, block_of}
 use Rattle.lower_blocks.specs.Blocks.Told.{of_policy, of_zone}
 use Rattle.lower_blocks.specs.Needed.{ActingPoliciesAreTold, IsEnd, all_told}
-use Rattle.lower_blocks.proofs.There.{BlockIn, OfBlock, block_is_in, of_some_block}
+use Rattle.lower_blocks.proofs.There.{block_is_in, of_some_block}
+use Rattle.lower_changes.specs.Stands.{SidesHold}
 use Rattle.lower_dispatch.specs.Uses.{IsChainName}
 use Rattle.lower_hooks.specs.Chains.{base_chain}
-use Rattle.lower_hooks.specs.Leads.{BaseLeads, ForwardLeads, HasLeads, InputLeads, IsForwardTarget, IsInputTarget, IsOutputTarget, IsPolicyChain, IsZoneChain, Leads, OutputLeads}
+use Rattle.lower_hooks.specs.Leads.{IsForwardTarget, IsInputTarget, IsOutputTarget, IsPolicyChain, IsZoneChain, Leads}
 use Rattle.lower_hooks.specs.Leads.IsForwardTarget.{before as before_forward, behind as behind_forward}
 use Rattle.lower_hooks.specs.Leads.IsInputTarget.{before as before_input, settings, behind as behind_input}
 use Rattle.lower_hooks.specs.Leads.IsOutputTarget.{before as before_output, behind as behind_output}
-use Rattle.lower_hooks.specs.Names.{forward_names, forward_start, from_names, input_start, names_of, output_start, pair_start, zone_names}
+use Rattle.lower_hooks.specs.Names.{forward_names, forward_start, from_names, input_start, output_start, pair_start, zone_names}
 use Rattle.lower_zone.specs.Forms.{chain_named}
 use Rattle.lower_zone.specs.Names.{block_name}
 use Rattle.nf_rules.specs.declared.chain.Chain.{Chain}
-use Rattle.nf_rules.specs.declared.chain.Hook.{Hook}
 use Rattle.nf_rules.specs.declared.chain.Hook.TheVariants as hook
 use Rattle.nf_rules.specs.declared.map.NfMap.{NfMap}
 use Rattle.nf_rules.specs.declared.ruleset.Ruleset.{Ruleset}
@@ -119,6 +120,17 @@ module _ (config : Config) (rules : Ruleset) (parts : HasParts config rules) whe
   zone_reached : (zone : Zone) → IsIn zone (used_zones config) → (name : List ℕ) → IsZoneChain zone name → Reaches rules 2 name
   zone_reached zone among name is =
       subst (λ (one : List ℕ). Reaches rules 2 one) (sym is.is) (block_reached (of_zone zone) (zone_is_told config rules parts zone among is.some))
+
+  -- chains outside the filter
+  side_holds : SidesHold → (of : Side) (chain : Chain) → IsIn chain (side_of parts.joined.sides of) → Holds rules 5 chain
+  side_holds hold of chain among =
+      let stands = hold config of (used_zones config) (side_of parts.joined.sides of) rules
+          (are_side config (used_zones config) parts.joined.outside parts.joined.sides of)
+          (side_there config rules parts of) parts.has_sets (used_is_listed config rules parts) in
+      record {
+        stand = each_of_all (λ (one : Chain). list_all (rule_stands rules) one.rules) (side_of parts.joined.sides of) stands.rules_stand chain among;
+        short = λ links path. (let few = stands.short chain among links path in omega arith);
+      }
 
   module _ (acting : ActingPoliciesAreTold) where
     policy_reached : (at : Stage) (from to : End) → IsEnd (used_zones config) from → IsEnd (used_zones config) to
@@ -276,24 +288,24 @@ module _ (config : Config) (rules : Ruleset) (parts : HasParts config rules) whe
         by (inr there) = of_flat_map (Named rules chain) (from_names (used_zones config)) (used_zones config) of_from chain.name there refl
 
     -- all chains
-    each_holds : (chain : Chain) → IsIn chain rules.chains → Holds rules 5 chain
-    each_holds = each_chain config rules parts (λ chain. Holds rules 5 chain) input_holds forward_holds output_holds settings_hold
+    each_holds : SidesHold → (chain : Chain) → IsIn chain rules.chains → Holds rules 5 chain
+    each_holds hold = each_chain config rules parts (λ chain. Holds rules 5 chain) input_holds forward_holds output_holds settings_hold (side_holds hold)
 
-    short_of : (name : List ℕ) (found : Option Chain) → chain_of rules.chains name ≡ found → Within rules 16 name
-    short_of name None is links path = none path
+    short_of : SidesHold → (name : List ℕ) (found : Option Chain) → chain_of rules.chains name ≡ found → Within rules 16 name
+    short_of hold name None is links path = none path
       where
         none : {links : ℕ} → Path rules name links → links ≤ 16
         none stays = omega arith
         none (link there among rest) = cc
-    short_of name (Some chain) is links path =
+    short_of hold name (Some chain) is links path =
         let here = called_is (λ (one : Chain). one.name) name rules.chains chain is in
-        let few = (each_holds chain here.among).short links (subst (λ (one : List ℕ). Path rules one links) (sym here.named) path) in
+        let few = (each_holds hold chain here.among).short links (subst (λ (one : List ℕ). Path rules one links) (sym here.named) path) in
         omega arith
 
-    pub is_sound : AreByName rules → rules.maps ≡ [] → SoundRules rules
-    is_sound ordered no_map = record {
-      rules_stand = all_of_each (λ (chain : Chain). list_all (rule_stands rules) chain.rules) rules.chains (λ chain among. (each_holds chain among).stand);
+    pub is_sound : SidesHold → AreByName rules → rules.maps ≡ [] → SoundRules rules
+    is_sound hold ordered no_map = record {
+      rules_stand = all_of_each (λ (chain : Chain). list_all (rule_stands rules) chain.rules) rules.chains (λ chain among. (each_holds hold chain among).stand);
       maps_stand = ap (λ (maps : List NfMap). list_all (map_stands rules) maps) no_map;
       by_name = ordered;
-      short = λ name links path. short_of name (chain_of rules.chains name) refl links path;
+      short = λ name links path. short_of hold name (chain_of rules.chains name) refl links path;
     }

@@ -1,27 +1,24 @@
 -- The whole compiler: its rulesets can be installed, and do with every packet what the settings say.
-use Rattle.std.proofs.Common.{◌≡◌, ◌≢◌, ◌∙◌, ℕ, Bool, true, false, List, [], ◌∷◌, map, Option, None, Some, inl, inr, refl, sym, ap, subst, arith, Decides}
+use Rattle.std.proofs.Common.{◌≡◌, ◌≢◌, ℕ, Bool, true, false, List, [], ◌∷◌, map, Some, inl, inr, refl, sym, subst, arith}
 use Rattle.std.proofs.lemmas.Slice.Eq.{bytes_eq-Decides}
 use Rattle.std.specs.Prelude.{IsSome, if◌then◌else◌}
 use Rattle.std.specs.List.{AllPairs}
 use Rattle.std.specs.Str.{bytes_eq}
-use Rattle.fw_hits.specs.Bindings.{default_zone}
 use Rattle.fw_model.specs.declared.config.Config.{Config}
 use Rattle.fw_model.specs.declared.runtime.Runtime.{Runtime}
 use Rattle.fw_model.specs.declared.zone.Zone.{Zone}
-use Rattle.fw_valid.specs.Names.{zone_names}
 use Rattle.fw_valid.specs.Valid.{IsValid}
 use Rattle.fw_zone.specs.Lists.{IsIn}
 use Rattle.lower_all.specs.Compiled.{IsCompiled, IsMade}
+use Rattle.lower_all.specs.Joined.{used_zones}
 use Rattle.lower_all.proofs.Apart.{names_apart}
 use Rattle.lower_all.proofs.Found.{found, is_in_again, is_in_before}
+use Rattle.lower_all.proofs.Laws.{Laws, NameLaws}
 use Rattle.lower_all.proofs.Named.{chains_by_name, each_has_set, sets_by_name}
 use Rattle.lower_all.proofs.Parts.{HasParts}
 use Rattle.lower_all.proofs.SetsStand.{sets_stand}
 use Rattle.lower_all.proofs.Standing.{is_sound}
-use Rattle.lower_all.proofs.Working.{all_works}
-use Rattle.lower_blocks.specs.Needed.{ActingPoliciesAreTold}
-use Rattle.lower_hooks.specs.Laws.{HooksLeadTheWay, OneRunsAtEach}
-use Rattle.lower_panic.specs.Laws.{PanicRulesCompile}
+use Rattle.lower_all.proofs.Working.{all_works, sides_stand}
 use Rattle.nf_goal.specs.Compiles.{Compiles}
 use Rattle.nf_rules.specs.declared.chain.Chain.{Chain}
 use Rattle.nf_rules.specs.declared.map.NfMap.{NfMap}
@@ -40,9 +37,9 @@ some_called {T = T} name_of name (first ∷ others) there = either (bytes_eq (na
     either false other (inl same) rest = let is = (bytes_eq-Decides (name_of first) name).1 same in cc
     either false other (inr later) rest = rest later
 
-module _ (config : Config) (rules : Ruleset) (made : IsCompiled config rules) (valid : IsValid config) where
+module _ (laws : NameLaws) (config : Config) (rules : Ruleset) (made : IsCompiled config rules) (valid : IsValid config) where
   apart : AllPairs (λ (one other : Chain). one.name ≢ other.name) rules.chains
-  apart = names_apart config rules.chains made.chains valid.names
+  apart = names_apart laws config valid.names rules.chains made.chains
 
   has_parts : HasParts config rules
   has_parts = record {
@@ -57,29 +54,32 @@ module _ (config : Config) (rules : Ruleset) (made : IsCompiled config rules) (v
 
   in_order : AreByName rules
   in_order = record {
-    chains = chains_by_name config rules.chains made.chains valid.names;
+    chains = chains_by_name laws config rules.chains made.chains valid.names;
     sets = sets_by_name config rules.sets made.sets valid.names;
     maps = subst (λ (maps : List NfMap). IsByName (λ (map : NfMap). map.name) maps) (sym made.no_map) (λ one other default before within. absurd (omega (arith, within)));
   }
 
-compiled_compiles : HooksLeadTheWay → OneRunsAtEach → ActingPoliciesAreTold
+compiled_compiles : Laws
     → (rules : Ruleset) (runtime : Runtime)
     → IsCompiled runtime.config rules
     → IsValid runtime.config
     → runtime.panic ≡ false
     → Compiles rules runtime
-compiled_compiles way one_runs acting rules runtime made valid no_panic =
-    let parts = has_parts runtime.config rules made valid in
+compiled_compiles laws rules runtime made valid no_panic =
+    let parts = has_parts laws.names runtime.config rules made valid in
+    let sides = parts.joined.sides in
     record {
-      sound = is_sound runtime.config rules parts acting (in_order runtime.config rules made valid) made.no_map;
-      outcomes = way rules runtime no_panic (all_works runtime.config rules parts acting one_runs);
+      sound = is_sound runtime.config rules parts laws.filter.acting laws.sides.hold (in_order laws.names runtime.config rules made valid) made.no_map;
+      outcomes = laws.sides.led runtime (used_zones runtime.config) rules sides.marks sides.targets sides.masks no_panic
+          (sides_stand runtime.config rules parts laws.sides)
+          (laws.filter.decide rules runtime.config (all_works runtime.config rules parts laws.filter.acting laws.sides laws.filter.one_runs));
     }
 
-pub made_compiles : HooksLeadTheWay → OneRunsAtEach → ActingPoliciesAreTold → PanicRulesCompile
+pub made_compiles : Laws
     → (rules : Ruleset) (runtime : Runtime) (panic : Bool)
     → runtime.panic ≡ panic
     → IsMade panic runtime.config rules
     → IsValid runtime.config
     → Compiles rules runtime
-made_compiles way one_runs acting panics rules runtime true is made valid = subst (λ (one : Ruleset). Compiles one runtime) (sym made) (panics runtime is)
-made_compiles way one_runs acting panics rules runtime false is made valid = compiled_compiles way one_runs acting rules runtime made valid is
+made_compiles laws rules runtime true is made valid = subst (λ (one : Ruleset). Compiles one runtime) (sym made) (laws.panic runtime is)
+made_compiles laws rules runtime false is made valid = compiled_compiles laws rules runtime made valid is

@@ -9,10 +9,12 @@ use Rattle.fw_model.specs.declared.ipset.Item.TheVariants as item
 use Rattle.fw_model.specs.declared.ipset.SetKind.{SetKind}
 use Rattle.fw_model.specs.declared.ipset.SetKind.TheVariants as kind
 use Rattle.fw_model.specs.declared.zone.Zone.{Zone}
+use Rattle.fw_verdict.specs.declared.sides.Side.TheVariants as side
 use Rattle.lower_dispatch.specs.Uses.{is_in_use}
 use Rattle.lower_all.specs.Ordered.{IsOrdered}
 use Rattle.lower_blocks.specs.Blocks.{AreBlocks}
 use Rattle.lower_blocks.specs.Needed.{all_told}
+use Rattle.lower_changes.specs.Sides.{IsSide}
 use Rattle.lower_hooks.specs.Chains.{ForwardWorks, InputWorks, OutputWorks}
 use Rattle.lower_hooks.specs.Leads.{ForwardLeads, InputLeads, OutputLeads}
 use Rattle.lower_hooks.specs.Names.{forward_names, input_start, names_of, output_start, zone_names}
@@ -26,13 +28,25 @@ use Rattle.nf_rules.specs.declared.set.SetBody.TheVariants as body
 abbrev pub used_zones : Config → List Zone
 used_zones config = filter (is_in_use config) config.zones
 
--- The chains of the hooks, which do there what is done with packets on their way through the firewall, and the chains of the settings to
--- which they lead; all of them in order of their names.
+-- The chains outside the filter: those of what marks packets, of what translates their destination, and of what has them leave with the
+-- host's own address.
+pub record AreOutside (config : Config) (zones : List Zone) (chains : List Chain) : Type 0 where
+  pub marks : List Chain
+  pub targets : List Chain
+  pub masks : List Chain
+  pub marked : IsSide config side.Marked zones marks
+  pub translated : IsSide config side.Translated zones targets
+  pub leaving : IsSide config side.Leaving zones masks
+  pub are : chains ≡ (marks ++ targets) ++ masks
+
+-- The chains of the hooks, which do there what is done with packets on their way through the firewall, the chains of the settings to
+-- which they lead, and those outside the filter; all of them in order of their names.
 pub record AreJoined (config : Config) (chains : List Chain) : Type 0 where
   pub inputs : List Chain
   pub forwards : List Chain
   pub outputs : List Chain
   pub settings : List Chain
+  pub outside : List Chain
   pub input : InputWorks config (used_zones config) inputs
   pub forward : ForwardWorks config (used_zones config) forwards
   pub output : OutputWorks config (used_zones config) outputs
@@ -43,7 +57,8 @@ pub record AreJoined (config : Config) (chains : List Chain) : Type 0 where
   pub forward_names : names_of forwards ≡ codes "filter_FORWARD" ∷ forward_names (used_zones config) (used_zones config)
   pub output_names : names_of outputs ≡ codes "filter_OUTPUT" ∷ zone_names output_start (used_zones config)
   pub blocks : AreBlocks config (all_told config (used_zones config)) settings
-  pub all : IsPermutation (((inputs ++ forwards) ++ outputs) ++ settings) chains
+  pub sides : AreOutside config (used_zones config) outside
+  pub all : IsPermutation ((((inputs ++ forwards) ++ outputs) ++ settings) ++ outside) chains
   pub sorted : IsOrdered (λ (chain : Chain). chain.name) chains
 
 -- the entries that a set keeps: none where they come with a timeout (firewalld.ipset(5), `timeout`)

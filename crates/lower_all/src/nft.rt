@@ -1,16 +1,22 @@
 //! The compiler.
 ghost use Rattle.std.specs.Prelude.{IfOk, IsPermutation};
+ghost use Rattle.fw_valid.specs.Valid.{IsValid};
 ghost use Rattle.lower_all.specs.Compiled.{IsCompiled, IsMade};
 ghost use Rattle.lower_all.specs.Joined.{AreJoined};
 ghost use Rattle.lower_all.specs.Ordered.{IsOrdered};
 
+use crate::outside::outside_chains;
 use crate::sets::sets_of;
 use crate::zones::used_zones;
 use fw_base::{Memory, Seq};
 use fw_model::Runtime;
 use lower_blocks::{acting_policies_are_told, push_block, settings_chains};
+use lower_changes::{
+    bases_run, chains_are_apart, sides_are_apart, sides_hold, sides_stand_outside, sides_work,
+    way_is_led,
+};
 use lower_hooks::{
-    forward_chains, hooks_lead_the_way, input_chains, one_runs_at_each_hook, output_chains,
+    forward_chains, hooks_decide, input_chains, one_runs_at_each_hook, output_chains,
 };
 use lower_panic::{panic_rules, panic_rules_compile};
 use nf_goal::Compiler;
@@ -32,9 +38,11 @@ fn by_name(chains: Seq<Chain>) -> Result<Seq<Chain>, Memory>
     Ok(Seq::from_vec(ordered))
 }
 
-/// All chains: those of the hooks, in which the packets of zones go, and those of the settings that they may meet.
+/// All chains: those of the hooks, in which the packets of zones go, those of the settings that they may meet, and those outside the
+/// filter.
 #[tactic(auto, using(crate::proofs::Joining::joined))]
 fn chains_of(alloc: Global, runtime: &Runtime) -> Result<Seq<Chain>, Memory>
+    requires { IsValid runtime.now.config }
     ensures { IfOk result (AreJoined runtime.now.config) }
 {
     let config = &runtime.config;
@@ -44,11 +52,13 @@ fn chains_of(alloc: Global, runtime: &Runtime) -> Result<Seq<Chain>, Memory>
     push_block(forward_chains(alloc, config, zones)?, &mut chains)?;
     push_block(output_chains(alloc, config, zones)?, &mut chains)?;
     push_block(settings_chains(alloc, runtime, zones)?, &mut chains)?;
+    push_block(outside_chains(alloc, config, zones)?, &mut chains)?;
     by_name(chains)
 }
 
 /// The ruleset of the settings outside panic mode.
 fn compiled(alloc: Global, runtime: &Runtime) -> Result<Ruleset, Memory>
+    requires { IsValid runtime.now.config }
     ensures { IfOk result (IsCompiled runtime.now.config) }
 {
     Ok(Ruleset {
@@ -60,6 +70,7 @@ fn compiled(alloc: Global, runtime: &Runtime) -> Result<Ruleset, Memory>
 
 /// The ruleset of the settings in force.
 fn made(alloc: Global, runtime: &Runtime) -> Result<Ruleset, Memory>
+    requires { IsValid runtime.now.config }
     ensures { IfOk result (IsMade runtime.now.panic runtime.now.config) }
 {
     if runtime.panic {
@@ -75,9 +86,16 @@ impl Compiler for Nft {
     ghost makes = { λ compiler runtime rules. IsMade runtime.panic runtime.config rules };
 
     fn compile(&self, alloc: Global, runtime: &Runtime) -> Result<Ruleset, Memory> {
-        hooks_lead_the_way();
+        hooks_decide();
         one_runs_at_each_hook();
         acting_policies_are_told();
+        sides_work();
+        sides_hold();
+        bases_run();
+        chains_are_apart();
+        sides_are_apart();
+        sides_stand_outside();
+        way_is_led();
         panic_rules_compile();
         made(alloc, runtime)
     }

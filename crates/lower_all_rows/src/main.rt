@@ -1,8 +1,9 @@
 //! Configurations, and what becomes of packets under them, both by the walk over the settings and by the ruleset that they are compiled
 //! to. The files stdin and stdout beside src/ are one table, worked out by hand from the rules in docs/PROFILE.md.
 //!
-//! `packet WORDS` tells what becomes of a packet, and once more where the ruleset says otherwise; `rules` prints the ruleset, `panic`
-//! begins panic mode, and `clear` begins anew from the built-in configuration. All other lines are those of `fw_rows`.
+//! `packet WORDS` tells what becomes of a packet, and once more where the ruleset says otherwise; `rules` prints the ruleset, `denied KIND`
+//! says which denied packets are told of, `panic` and `calm` begin and end panic mode, and `clear` begins anew from the built-in
+//! configuration. All other lines are those of `fw_rows`.
 #![tactic(auto)]
 
 ghost use Rattle.std.specs.Prelude.{IfOk, IfSome};
@@ -12,7 +13,7 @@ use anyhow::Result;
 use fw_base::Memory;
 use fw_broken::broken_rule;
 use fw_line::push_outcome;
-use fw_model::{Packet, Runtime};
+use fw_model::{LogDenied, Packet, Runtime};
 use fw_packet::read_packet;
 use fw_rows::edit;
 use fw_service::built_in_config;
@@ -54,6 +55,8 @@ fn done(alloc: Global, runtime: &mut Runtime, line: &str) -> Result<String, Line
     match *kind {
         "clear" => *runtime = built_in(alloc)?,
         "panic" => runtime.panic = true,
+        "calm" => runtime.panic = false,
+        "denied" => runtime.config.log_denied = read_denied(rest)?,
         "packet" => push_packet(alloc, &mut out, runtime, &read_packet(alloc, rest)?)?,
         "rules" => match compiled(alloc, runtime)? {
             Some(rules) => out.push_str(print(alloc, &rules)?.as_str())?,
@@ -62,6 +65,20 @@ fn done(alloc: Global, runtime: &mut Runtime, line: &str) -> Result<String, Line
         _ => edit(alloc, &mut runtime.config, words.as_slice())?,
     }
     Ok(out)
+}
+
+fn read_denied(words: &[&str]) -> Result<LogDenied, LineError> {
+    let [kind] = words else {
+        return Err(LineError::BadLine);
+    };
+    match *kind {
+        "off" => Ok(LogDenied::Off),
+        "all" => Ok(LogDenied::All),
+        "unicast" => Ok(LogDenied::Unicast),
+        "broadcast" => Ok(LogDenied::Broadcast),
+        "multicast" => Ok(LogDenied::Multicast),
+        _ => Err(LineError::BadLine),
+    }
 }
 
 /// The ruleset of the settings, where these are valid.

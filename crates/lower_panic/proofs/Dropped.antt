@@ -7,8 +7,7 @@ use Rattle.fw_model.specs.declared.packet.Origin.TheVariants as origin
 use Rattle.fw_model.specs.declared.packet.Packet.{Packet}
 use Rattle.fw_model.specs.declared.packet.Via.{Via}
 use Rattle.fw_model.specs.declared.packet.Via.TheVariants as via
-use Rattle.fw_verdict.specs.FilterWay.{filter_passed as walked}
-use Rattle.fw_verdict.specs.Way.{panicked}
+use Rattle.fw_verdict.specs.Way.{panicked, passed as walked}
 use Rattle.lower_panic.specs.Laws.{PanicRulesCompile}
 use Rattle.lower_panic.specs.Panic.{panic_rules}
 use Rattle.nf_chains.proofs.Sound.{of_found}

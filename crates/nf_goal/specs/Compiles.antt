@@ -3,7 +3,7 @@
 use Rattle.fw_model.specs.Packets.{IsPacket}
 use Rattle.fw_model.specs.declared.packet.Packet.{Packet}
 use Rattle.fw_model.specs.declared.runtime.Runtime.{Runtime}
-use Rattle.fw_verdict.specs.FilterWay.{filter_way}
+use Rattle.fw_verdict.specs.Way.{way}
 use Rattle.nf_chains.specs.Hooks.{Eval}
 use Rattle.nf_rules.specs.declared.ruleset.Ruleset.{Ruleset}
 use Rattle.nf_sound.specs.Sound.{SoundRules}
@@ -11,6 +11,5 @@ use Rattle.nf_sound.specs.Sound.{SoundRules}
 pub record Compiles (rules : Ruleset) (runtime : Runtime) : Type 0 where
   -- it can be installed
   pub sound : SoundRules rules
-  -- and does with every packet what the settings in the filter say: marks, translation, masquerade and lines of denied packets have no
-  -- rules yet
-  pub outcomes : (packet : Packet) → IsPacket packet → Eval rules packet (filter_way runtime packet)
+  -- and does with every packet what the settings say, on its whole way through the firewall
+  pub outcomes : (packet : Packet) → IsPacket packet → Eval rules packet (way runtime packet)

@@ -4,7 +4,7 @@ use Rattle.fw_model.specs.Packets.{IsPacket}
 use Rattle.fw_model.specs.declared.outcome.Outcome.{Outcome}
 use Rattle.fw_model.specs.declared.packet.Packet.{Packet}
 use Rattle.fw_model.specs.declared.runtime.Runtime.{Runtime}
-use Rattle.fw_verdict.specs.FilterWay.{filter_way}
+use Rattle.fw_verdict.specs.Way.{way}
 use Rattle.nf_chains.specs.Hooks.{Eval}
 use Rattle.nf_goal.specs.Compiles.{Compiles}
 use Rattle.nf_rules.specs.declared.ruleset.Ruleset.{Ruleset}
@@ -15,4 +15,4 @@ OutcomesAreTheWay =
     → Compiles rules runtime
     → (packet : Packet) → IsPacket packet
     → (outcome : Outcome) → Eval rules packet outcome
-    → outcome ≡ filter_way runtime packet
+    → outcome ≡ way runtime packet
