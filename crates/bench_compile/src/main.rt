@@ -214,9 +214,12 @@ fn worked_if_valid(
 fn main(rt: HostRuntime) -> Result<()> {
     let alloc = rt.alloc();
     let mut words = env::args(&rt)?.skip(1);
-    let (Some(count), Some(work), Some(size), Some(kind)) =
-        (words.next(), words.next(), words.next(), words.next())
-    else {
+    let (Some(count), Some(work), Some(size), Some(kind)) = (
+        words.next(),
+        words.next(),
+        words.next(),
+        words.next(),
+    ) else {
         return Err(anyhow!("how often, what, over how many, and of which settings?"));
     };
     let runtime = settings(alloc, kind.as_str(), size.as_str().parse::<u64>()?)?;

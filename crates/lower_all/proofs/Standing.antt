@@ -125,8 +125,8 @@ module _ (config : Config) (rules : Ruleset) (parts : HasParts config rules) whe
   side_holds : SidesHold → (of : Side) (chain : Chain) → IsIn chain (side_of parts.joined.sides of) → Holds rules 5 chain
   side_holds hold of chain among =
       let stands = hold config of (used_zones config) (side_of parts.joined.sides of) rules
-          (are_side config (used_zones config) parts.joined.outside parts.joined.sides of)
-          (side_there config rules parts of) parts.has_sets (used_is_listed config rules parts) in
+      (are_side config (used_zones config) parts.joined.outside parts.joined.sides of)
+      (side_there config rules parts of) parts.has_sets (used_is_listed config rules parts) in
       record {
         stand = each_of_all (λ (one : Chain). list_all (rule_stands rules) one.rules) (side_of parts.joined.sides of) stands.rules_stand chain among;
         short = λ links path. (let few = stands.short chain among links path in omega arith);

@@ -18,7 +18,13 @@ pub fn outside_chains(alloc: Global, config: &Config, zones: &[&Zone]) -> Result
     ensures { IfOk result (λ chains. IsWritten config.now (lent zones.now) → AreOutside config.now (lent zones.now) chains) }
 {
     let mut chains = side_chains(alloc, config, Side::Marked, zones)?;
-    push_block(side_chains(alloc, config, Side::Translated, zones)?, &mut chains)?;
-    push_block(side_chains(alloc, config, Side::Leaving, zones)?, &mut chains)?;
+    push_block(
+        side_chains(alloc, config, Side::Translated, zones)?,
+        &mut chains,
+    )?;
+    push_block(
+        side_chains(alloc, config, Side::Leaving, zones)?,
+        &mut chains,
+    )?;
     Ok(chains)
 }
