@@ -1,5 +1,5 @@
 -- The chains, put together.
-use Rattle.std.proofs.Common.{◌≡◌, ◌∙◌, List, ◌∷◌, ◌++◌, map, IsPermutation, sym, ap, subst}
+use Rattle.std.proofs.Common.{◌≡◌, ◌∙◌, List, ◌∷◌, ◌++◌, map, IsPermutation, sym, ap, subst, Result, Ok, Err, IfOk}
 use Rattle.std.specs.Prelude.{codes}
 use Rattle.fw_model.specs.declared.config.Config.{Config}
 use Rattle.fw_model.specs.declared.policy.Policy.{Policy}
@@ -103,3 +103,10 @@ joined config zones inputs forwards outputs settings outside first second third 
       moved;
   sorted = sorted;
 }
+
+-- two clauses on a result, as one
+pub both_ok : {X E : Type 0} (result : Result X E) (One Other Joined : X → Type 0)
+    → ((x : X) → One x → Other x → Joined x)
+    → IfOk result One → IfOk result Other → IfOk result Joined
+both_ok (Ok x) One Other Joined join one other = join x one other
+both_ok (Err error) One Other Joined join one other = other

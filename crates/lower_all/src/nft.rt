@@ -40,7 +40,6 @@ fn by_name(chains: Seq<Chain>) -> Result<Seq<Chain>, Memory>
 
 /// All chains: those of the hooks, in which the packets of zones go, those of the settings that they may meet, and those outside the
 /// filter.
-#[tactic(auto, using(crate::proofs::Joining::joined))]
 fn chains_of(alloc: Global, runtime: &Runtime) -> Result<Seq<Chain>, Memory>
     requires { IsValid runtime.now.config }
     ensures { IfOk result (AreJoined runtime.now.config) }
